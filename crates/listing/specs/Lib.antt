@@ -1,0 +1,4 @@
+pub mod Calls
+pub mod Tallies
+pub mod Lines
+pub mod Listings
