@@ -18,6 +18,9 @@ use Rattle.keys.specs.declared.text.TextFault.{TextFault}
 use Rattle.keys.specs.Orders.{compared}
 use Rattle.keys.specs.Decimals.{decimal-fault, decimal-order}
 use Rattle.keys.specs.Texts.{text-fault, text-order, text-filler}
+use Rattle.trees.specs.Trees.{leaf}
+use Rattle.trees.specs.Edits.{Drop}
+use Rattle.examples.specs.Shapes.{Sizes-balanced, none, top, only, shape, puts, after, one-to-six}
 
 abbrev pub decimal : ℤ → ℕ → Decimal
 decimal coefficient scale = record { scale = scale; coefficient = coefficient }
@@ -45,3 +48,9 @@ pub record Worked : Type 0 where
   pub prefix : compare-texts (text (codes "ab")) (text (codes "abc")) ≡ Ok Below
   -- the empty text is below every other well-formed text of 16 bytes
   pub empty-first : (t : Text) → length (t .bytes) ≡ 16 → text-fault t ≡ None → (t ≡ text-filler → ⊥) → compare-texts text-filler t ≡ Ok Below
+  -- sides of sizes 0 and 2 are balanced, 0 and 3 not; 1 and 5 are, 1 and 6 not
+  pub sizes : Sizes-balanced 0 2 × (Sizes-balanced 0 3 → ⊥) × Sizes-balanced 1 5 × (Sizes-balanced 1 6 → ⊥)
+  -- what puts and a drop build, every edit finished
+  pub puts-one-to-six : shape one-to-six ≡ top 2 (only 1) (top 4 (only 3) (top 5 none (only 6)))
+  pub puts-one-five-three-four : shape (puts (1 ∷ 5 ∷ 3 ∷ 4 ∷ []) leaf) ≡ top 3 (only 1) (top 5 (only 4) none)
+  pub drop-two : shape (after (Drop 2) one-to-six) ≡ top 3 (only 1) (top 4 none (top 5 none (only 6)))

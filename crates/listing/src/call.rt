@@ -2,7 +2,6 @@
 ghost use mathlib.Core.Path.{_≡_};
 ghost use lib.ListN.{length};
 ghost use denote.Ref.{now};
-ghost use lib.Chars.{codes};
 ghost use Rattle.std.specs.declared.option.Option.the-variants.{Some};
 ghost use Rattle.journal.specs.KeyKinds.{key-width};
 ghost use Rattle.journal.specs.Readers.{Key-inside, Keys-inside};
@@ -99,14 +98,22 @@ pub impl fmt::Display for AnyKey as AnyKeyDisplay {
     }
 }
 
-// What is said of a key behind the fields of its record: nothing of a well-formed one, else its argument and its fault.
+// What is said of a key behind the fields of its line: nothing of a well-formed one, else its argument and its fault.
 #[derive(Drop)]
-struct Note<'a> {
+pub struct Note<'a> {
     argument: &'a str,
     key: &'a AnyKey,
 }
 
-impl fmt::Display for Note<'_> as NoteDisplay {
+impl<'a> Note<'a> {
+    pub fn new(argument: &'a str, key: &'a AnyKey) -> Note<'a>
+        ensures { λ r. ⌜ now (r .argument) ≡ now (argument .entry) ⌝ ∗ ⌜ now (r .key) ≡ now (key .entry) ⌝ }
+    {
+        Note { argument, key }
+    }
+}
+
+pub impl fmt::Display for Note<'_> as NoteDisplay {
     ghost shown = { λ n. Some (note-shown (now (n .argument)) (now (n .key))) };
 
     fn fmt<W: fmt::Write>(&self, f: &mut fmt::Formatter<W>) -> fmt::Result {
@@ -188,38 +195,26 @@ impl Call {
     }
 }
 
-// The note of a record's only key.
-fn note_on(key: &AnyKey) -> Note<'_>
-    ensures { λ r. ⌜ now (r .argument) ≡ codes "key" ⌝ ∗ ⌜ now (r .key) ≡ now (key .entry) ⌝ }
-{
-    Note {
-        argument: "key",
-        key,
-    }
-}
-
 pub impl fmt::Display for Call as CallDisplay {
     ghost shown = { λ c. Some (call-shown c) };
 
     fn fmt<W: fmt::Write>(&self, f: &mut fmt::Formatter<W>) -> fmt::Result {
         match self {
             Call::Put { low, high, rows } => {
-                let first = Note {
-                    argument: "low",
-                    key: low,
-                };
-                let second = Note {
-                    argument: "high",
-                    key: high,
-                };
+                let first = Note::new("low", low);
+                let second = Note::new("high", high);
                 write!(f, "put {low} {high} {rows}{first}{second}")
             }
-            Call::Drop { key } => write!(f, "drop {key}{}", note_on(key)),
+            Call::Drop { key } => write!(f, "drop {key}{}", Note::new("key", key)),
             Call::Split { key, lower, upper } => {
-                write!(f, "split {key} {lower} {upper}{}", note_on(key))
+                write!(f, "split {key} {lower} {upper}{}", Note::new("key", key))
             }
             Call::Advance => f.write_str("advance"),
-            Call::Open { session, key } => write!(f, "open {session} {key}{}", note_on(key)),
+            Call::Open { session, key } => write!(
+                f,
+                "open {session} {key}{}",
+                Note::new("key", key)
+            ),
             Call::Step { session } => write!(f, "step {session}"),
             Call::Close { session } => write!(f, "close {session}"),
             Call::Counts => f.write_str("counts"),

@@ -9,6 +9,8 @@ pub use call::AnyKey;
 pub use call::AnyKeyDisplay;
 pub use call::Call;
 pub use call::CallDisplay;
+pub use call::Note;
+pub use call::NoteDisplay;
 pub use lines::list;
 pub use tally::Tally;
 pub use tally::TallyDisplay;

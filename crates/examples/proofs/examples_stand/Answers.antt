@@ -1,4 +1,5 @@
 use mathlib.Core.Path.{refl}
+use native.Mathlib.Omega.{arith}
 use Rattle.keys.specs.Decimals.{scaled}
 use Rattle.keys.specs.Texts.{orderBytes}
 use Rattle.examples.proofs.Texts.{empty-first}
@@ -14,4 +15,8 @@ returns c = record {
   largest = refl;
   prefix = refl;
   empty-first = empty-first;
+  sizes = (omega arith, λ e. omega arith, omega arith, λ e. omega arith);
+  puts-one-to-six = refl;
+  puts-one-five-three-four = refl;
+  drop-two = refl;
 }

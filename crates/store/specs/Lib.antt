@@ -1,0 +1,4 @@
+pub mod Faults
+pub mod Cells
+pub mod Fits
+pub mod Meanings

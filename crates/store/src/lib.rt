@@ -1,0 +1,35 @@
+// Stores of nodes: one interface, the record store and the guard.
+mod fault;
+mod guard;
+mod interface;
+mod meanings;
+mod node;
+mod record;
+
+pub use fault::Cause;
+pub use fault::CauseDebug;
+pub use fault::CauseEq;
+pub use fault::CausePartialEq;
+pub use fault::Function;
+pub use fault::FunctionDebug;
+pub use fault::FunctionEq;
+pub use fault::FunctionPartialEq;
+pub use fault::StoreFault;
+pub use fault::StoreFaultDebug;
+pub use fault::StoreFaultDisplay;
+pub use fault::StoreFaultEq;
+pub use fault::StoreFaultPartialEq;
+pub use fault::index_of;
+pub use guard::Guard;
+pub use guard::GuardStore;
+pub use interface::Store;
+pub use meanings::closing_all_is_unfit;
+pub use meanings::guard_meaning;
+pub use meanings::record_store_meaning;
+pub use node::FREE;
+pub use node::LIVE;
+pub use node::Node;
+pub use node::SEAT;
+pub use node::WAITING;
+pub use record::RecordStore;
+pub use record::RecordStoreStore;

@@ -1,0 +1,15 @@
+pub mod Rotations
+pub mod Heights
+pub mod Risings
+pub mod Orders
+pub mod Sets
+pub mod Places
+pub mod Loyal
+pub mod Grown
+pub mod Spells
+pub mod Overlaps
+pub mod Numbers
+pub mod Ancestors
+pub mod Steps
+pub mod News
+pub mod Broken

@@ -1,0 +1,8 @@
+use Rattle.trees.proofs.Orders.{lawful}
+use Rattle.trees.proofs.Sets.{keeps-set}
+use Rattle.trees.proofs.set_stays_one.Needs as need
+
+pub returns : need.returns
+returns g c low high =
+    let key = g .K·Ordered·met in
+    keeps-set _ (lawful (g .K·Ordered .fault) (g .K·Ordered .order) low high (key .reflexive) (key .reversal) (key .transitive))

@@ -1,0 +1,9 @@
+pub mod Regions
+pub mod Trees
+pub mod Rotations
+pub mod Edits
+pub mod Paths
+pub mod Steps
+pub mod Theorems
+pub mod Units
+pub mod Broken
