@@ -1,3 +1,4 @@
+pub mod Nodes
 pub mod Faults
 pub mod Cells
 pub mod Fits

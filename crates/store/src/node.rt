@@ -1,4 +1,6 @@
 // A node: what a store keeps under a number.
+ghost use mathlib.Core.Path.{_≡_};
+ghost use Rattle.store.specs.Nodes.{region-of, plain, link-number};
 
 // The marks of a node.
 pub const FREE: u8 = 0;
@@ -25,4 +27,45 @@ pub struct Node<K> {
     // The region's bounds: low belongs to it, high does not.
     pub low: K,
     pub high: K,
+}
+
+// The region of a node, passed along whole.
+#[derive(Clone, Copy)]
+pub struct Region<K> {
+    pub low: K,
+    pub high: K,
+    pub rows: u64,
+}
+
+pub fn region_of<K: Copy>(node: &Node<K>) -> Region<K>
+    ensures { λ r. ⌜ r ≡ region-of (now (node .entry)) ⌝ }
+{
+    Region {
+        low: node.low,
+        high: node.high,
+        rows: node.rows,
+    }
+}
+
+// A node that has a mark and keys, and zeros elsewhere.
+pub fn plain_node<K: Copy>(mark: u8, low: K, high: K) -> Node<K>
+    ensures { λ r. ⌜ r ≡ plain mark low high ⌝ }
+{
+    Node {
+        mark,
+        left: 0,
+        right: 0,
+        size: 0,
+        rows: 0,
+        waits: 0,
+        low,
+        high,
+    }
+}
+
+// The node that a link leads to; link 0 leads to none.
+pub fn linked(link: u16) -> Option<usize>
+    ensures { λ r. ⌜ r ≡ link-number link ⌝ }
+{
+    if link == 0 { None } else { Some(link as usize) }
 }

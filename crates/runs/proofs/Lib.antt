@@ -1,0 +1,11 @@
+pub mod Examples
+pub mod Makes
+pub mod Lines
+pub mod Links
+pub mod Cheats
+pub mod Relabels
+pub mod Renames
+pub mod Carries
+pub mod Deeds
+pub mod Kepts
+pub mod Chains

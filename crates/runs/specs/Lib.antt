@@ -1,0 +1,10 @@
+pub mod Calls
+pub mod Histories
+pub mod States
+pub mod Table
+pub mod Effects
+pub mod Runs
+pub mod Promise
+pub mod Examples
+pub mod Teeth
+pub mod Renamings

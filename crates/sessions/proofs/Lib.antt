@@ -1,0 +1,9 @@
+pub mod Rewriting
+pub mod Sweeping
+pub mod Makes
+pub mod Releases
+pub mod Acting
+pub mod Bits
+pub mod Lawful
+pub mod Freed
+pub mod Repeats

@@ -1,0 +1,10 @@
+use Rattle.sessions.specs.Writings.{Rewritten}
+use Rattle.sessions.specs.Making.{every-node}
+use Rattle.sessions.proofs.Sweeping.{upto}
+use Rattle.sessions.proofs.pool.make.Given as given
+
+-- the first i nodes are written, and the store is fit if it was
+abbrev pub Inv-loop-i : given.InvT-loop-i
+Inv-loop-i g l =
+    Rewritten (upto (l .i) (every-node (g .Key·Key .blank))) (g .S·Store .cells (l .entry .store)) (g .S·Store .cells (l .store))
+    × (g .S·Store .fit (l .entry .store) → g .S·Store .fit (l .store))

@@ -1,0 +1,37 @@
+// The sessions of a catalogue: 32 rows, a seat for each in the store, and the lookups that go down the tree one node at a time.
+mod fault;
+mod laws;
+mod lookup;
+mod meeting;
+mod pool;
+mod table;
+mod waiting;
+mod way;
+
+pub use fault::SessionFault;
+pub use fault::SessionFaultDebug;
+pub use fault::SessionFaultEq;
+pub use fault::SessionFaultFromStore;
+pub use fault::SessionFaultPartialEq;
+pub use laws::answers_repeat;
+pub use laws::close_releases;
+pub use laws::making_frees;
+pub use laws::ways_tell;
+pub use lookup::Call;
+pub use lookup::Row;
+pub use lookup::State;
+pub use lookup::Told;
+pub use meeting::Met;
+pub use pool::Counts;
+pub use pool::CountsDebug;
+pub use pool::CountsEq;
+pub use pool::CountsPartialEq;
+pub use pool::LEAST;
+pub use pool::MOST;
+pub use pool::SEATS;
+pub use pool::count_pool;
+pub use pool::make;
+pub use table::Sessions;
+pub use waiting::waiting_node;
+pub use way::Way;
+pub use way::way_at;
