@@ -141,7 +141,7 @@ impl Row {
         match linked(self.place) {
             None => Ok(Told::Nothing { steps }),
             Some(n) => {
-                let node = store.read(n)?;
+                let node = store.read(n as usize)?;
                 Ok(Told::Found {
                     region: region_of(&node),
                     steps,

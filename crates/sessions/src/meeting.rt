@@ -49,7 +49,7 @@ pub fn met_at<S: Store>(store: &S, seat: usize, place: u16) -> Result<Met<S::Key
         None => Ok(Met::Blank),
         Some(n) => {
             let own = store.read(seat)?;
-            let node = store.read(n)?;
+            let node = store.read(n as usize)?;
             Ok(met_by(way_at(&own.low, &node.low, &node.high), &node))
         }
     }

@@ -64,8 +64,8 @@ pub fn plain_node<K: Copy>(mark: u8, low: K, high: K) -> Node<K>
 }
 
 // The node that a link leads to; link 0 leads to none.
-pub fn linked(link: u16) -> Option<usize>
+pub fn linked(link: u16) -> Option<u16>
     ensures { λ r. ⌜ r ≡ link-number link ⌝ }
 {
-    if link == 0 { None } else { Some(link as usize) }
+    if link == 0 { None } else { Some(link) }
 }
