@@ -1,14 +1,11 @@
 -- The promise under a renaming of nodes: the nodes that left, the table, what a call does.
 use mathlib.Core.Path.{_≡_, refl, sym, ap, _∙_, subst}
-use mathlib.Core.Logic.{_⊎_, inl, inr}
 use mathlib.Core.List.{List, [], _∷_, map}
-use mathlib.Core.Bool.{Bool, true, false, cond, _||_}
-use Prim.Native.Nat.{ℕ, zero, suc, _+_, _-_, _*_, _≤_, _<_}
+use mathlib.Core.Bool.{Bool, cond}
+use Prim.Native.Nat.{ℕ, zero, suc, _-_}
 use native.Mathlib.Omega.{arith}
-use lib.Dec.{T, eqb, ltb}
+use lib.Dec.{T}
 use lib.ListN.{length, drop, length-map}
-use Rattle.std.specs.declared.option.Option.{Option}
-use Rattle.std.specs.declared.option.Option.the-variants.{Some, None}
 use Rattle.store.specs.Fits.{In-range}
 use Rattle.trees.specs.Trees.{Tree, leaf, node, count, seek}
 use Rattle.trees.specs.Rotations.{too-heavy}
@@ -17,14 +14,15 @@ use Rattle.store.specs.declared.node.Region.{Region}
 use Rattle.runs.specs.declared.call.Call.{Call}
 use Rattle.runs.specs.declared.call.Call.the-variants.{Put, Drop, Split, Advance, Open, Step, Close, Counts}
 use Rattle.runs.specs.declared.call.Refusal.{Refusal}
-use Rattle.runs.specs.Calls.{Kind, regions, number-of}
-use Rattle.runs.specs.Histories.{Event, History, open-since}
-use Rattle.runs.specs.States.{State, Cells, In-tree, member, pool, free-nodes}
-use Rattle.runs.specs.Table.{Scene, both-sides, rotates, found-under, free-needed, Fits, First-line, size, no-session, has-lookup, no-lookup, ill-formed, not-below, under-way, at-rest, overlapping, no-region, same-as-low, full, few-free}
-use Rattle.runs.specs.Runs.{Turn, history, state, state-at, Left-after, Left-during, All-different, Number-of}
+use Rattle.runs.specs.Calls.{Kind, regions}
+use Rattle.runs.specs.Histories.{History, open-since}
+use Rattle.runs.specs.States.{State, Cells, In-tree}
+use Rattle.runs.specs.Table.{Scene, both-sides, rotates, found-under, free-needed, Fits, size, no-session, has-lookup, no-lookup, ill-formed, not-below, under-way, at-rest, overlapping, no-region, same-as-low, full, few-free}
+use Rattle.runs.specs.Runs.{Turn, history, state, state-at, Left-after, Left-during, Number-of}
 use Rattle.runs.specs.Renamings.{relabel, relabel-path, relabel-place, Renaming, Renamed, Renamed-turns}
 use Rattle.runs.proofs.Relabels.{relabel-count, descend-as}
-use Rattle.runs.proofs.Renames.{relabel-plug, place-back, inverse, member-moves, member-to, renamed-back, in-tree-to}
+use Rattle.runs.proofs.Marks.{different-to, marks-same}
+use Rattle.runs.proofs.Renames.{relabel-plug, inverse, member-moves, renamed-back, in-tree-to}
 
 -- RUNS
 
@@ -89,10 +87,6 @@ module _ {K F : Type 0} {N : ℕ} (ρ : Renaming N) where
     left = left-after-to z y ts us (l .moment) q r h (l .left);
     still-open = subst (λ (e : History K F). T (open-since e (l .moment) (l .session))) (sym (turns-history ts us h)) (l .still-open);
   }
-
-different-to : {N : ℕ} (ρ : Renaming N) (qs : List ℕ) → All-different qs → All-different (map (ρ .to) qs)
-different-to ρ [] d = tt
-different-to ρ (q ∷ qs) d = (member-to ρ q qs ∙ d .0, different-to ρ qs (d .1))
 
 -- as many nodes after the renaming
 module _ {K F : Type 0} {N : ℕ} (ρ : Renaming N) (z y : State (Cells K)) (ts us : List (Turn (Cells K) K F)) (r : Renamed ρ z y) (h : Renamed-turns ρ ts us) where
@@ -167,4 +161,4 @@ module _ {K F : Type 0} (kd : Kind K F) where
     fits-to h p c e (no-region _ k d i) = no-region c k d i
     fits-to h p c e (same-as-low b m n w g i) = same-as-low b m n w g i
     fits-to h p c e (full _ d i) = full c d (let a = same-length in omega arith)
-    fits-to h p c e (few-free _ i) = few-free c (let a = r .marks 0 in let b = needed-as (ρ .to) c p in omega arith)
+    fits-to h p c e (few-free _ i) = few-free c (let a = marks-same ρ x y r 0 in let b = needed-as (ρ .to) c p in omega arith)

@@ -1,8 +1,8 @@
 -- The pending nodes of a state say where its edit is, but for the side of the lowest, which does not matter.
 use mathlib.Core.Path.{_≡_, refl, sym, ap, _∙_, subst}
 use mathlib.Core.List.{List, [], _∷_}
-use mathlib.Core.Bool.{Bool, true, false, cond, _||_, or-comm}
-use Prim.Native.Nat.{ℕ, zero, suc, _+_, _≤_, _<_}
+use mathlib.Core.Bool.{Bool, true, false, cond, or-comm}
+use Prim.Native.Nat.{ℕ, zero, suc, _+_, _≤_}
 use native.Mathlib.Omega.{arith}
 use borrow.Author.Tests.{eq-eqb}
 use lib.Dec.{eqb}
@@ -111,39 +111,39 @@ module _ {K F : Type 0} (kd : Kind K F) where
   agree-same fs gs t u e d = subst (λ (hs : List (Frame ℕ (Region K))). Agree fs hs t u) e (subst (Agree fs fs t) d (record { made = refl; turns = refl; sizes = λ n was. refl }))
 
   -- the two sides of one node
+  abbrev other : Side → Side
+  other left = right
+  other right = left
+
+  made-turned :
+      (s : Side) (n : ℕ) (x : Region K) (t w : Tree ℕ (Region K)) (fs : List (Frame ℕ (Region K))) →
+      advanced (frame s n x w ∷ fs) t ≡ advanced (frame (other s) n x t ∷ fs) w
+  made-turned left n x t w fs = refl
+  made-turned right n x t w fs = refl
+
   agree-turned :
-      (s s′ : Side) (n : ℕ) (x : Region K) (t w : Tree ℕ (Region K)) (fs : List (Frame ℕ (Region K))) → beside s n t x w ≡ beside s′ n w x t →
-      Agree (frame s n x w ∷ fs) (frame s′ n x t ∷ fs) t w
-  agree-turned left right n x t w fs e = record {
-    made = refl;
+      (s : Side) (n : ℕ) (x : Region K) (t w : Tree ℕ (Region K)) (fs : List (Frame ℕ (Region K))) →
+      Agree (frame s n x w ∷ fs) (frame (other s) n x t ∷ fs) t w
+  agree-turned s n x t w fs = record {
+    made = made-turned s n x t w fs;
     turns = or-comm (too-heavy (standing t) (standing w)) (too-heavy (standing w) (standing t));
     sizes = λ j was. ap (λ (m : ℕ). cond (eqb j n) (suc m) was) (add-comm (count t) (count w));
   }
-  agree-turned right left n x t w fs e = record {
-    made = refl;
-    turns = or-comm (too-heavy (standing t) (standing w)) (too-heavy (standing w) (standing t));
-    sizes = λ j was. ap (λ (m : ℕ). cond (eqb j n) (suc m) was) (add-comm (count t) (count w));
-  }
-  agree-turned left left n x t w fs e = let d : t ≡ w = cc in agree-same (frame left n x w ∷ fs) (frame left n x t ∷ fs) t w (ap (λ v. frame left n x v ∷ fs) (sym d)) d
-  agree-turned right right n x t w fs e = let d : t ≡ w = cc in agree-same (frame right n x w ∷ fs) (frame right n x t ∷ fs) t w (ap (λ v. frame right n x v ∷ fs) (sym d)) d
+
+  agree-crossed :
+      (s : Side) (n : ℕ) (x : Region K) (w t u : Tree ℕ (Region K)) (fs gs : List (Frame ℕ (Region K))) → w ≡ u → frame (other s) n x t ∷ fs ≡ gs →
+      Agree (frame s n x w ∷ fs) gs t u
+  agree-crossed s n x w t u fs gs d c =
+      subst (λ (hs : List (Frame ℕ (Region K))). Agree (frame s n x w ∷ fs) hs t u) c
+      (subst (λ (v : Tree ℕ (Region K)). Agree (frame s n x w ∷ fs) (frame (other s) n x t ∷ fs) t v) d (agree-turned s n x t w fs))
 
   agree-lowest :
       (s s′ : Side) (n n′ : ℕ) (x x′ : Region K) (w w′ t u : Tree ℕ (Region K)) (fs gs : List (Frame ℕ (Region K))) →
       Same fs gs (beside s n t x w) (beside s′ n′ u x′ w′) → Agree (frame s n x w ∷ fs) (frame s′ n′ x′ w′ ∷ gs) t u
   agree-lowest left left n n′ x x′ w w′ t u fs gs e = let a = e .path in let b = e .under in agree-same _ _ t u (cc) (cc)
   agree-lowest right right n n′ x x′ w w′ t u fs gs e = let a = e .path in let b = e .under in agree-same _ _ t u (cc) (cc)
-  agree-lowest left right n n′ x x′ w w′ t u fs gs e =
-      let a = e .path in let b = e .under in
-      let d : w ≡ u = cc in
-      let c : frame right n x t ∷ fs ≡ frame right n′ x′ w′ ∷ gs = cc in
-      subst (λ (hs : List (Frame ℕ (Region K))). Agree (frame left n x w ∷ fs) hs t u) c
-      (subst (λ (v : Tree ℕ (Region K)). Agree (frame left n x w ∷ fs) (frame right n x t ∷ fs) t v) d (agree-turned left right n x t w fs refl))
-  agree-lowest right left n n′ x x′ w w′ t u fs gs e =
-      let a = e .path in let b = e .under in
-      let d : w ≡ u = cc in
-      let c : frame left n x t ∷ fs ≡ frame left n′ x′ w′ ∷ gs = cc in
-      subst (λ (hs : List (Frame ℕ (Region K))). Agree (frame right n x w ∷ fs) hs t u) c
-      (subst (λ (v : Tree ℕ (Region K)). Agree (frame right n x w ∷ fs) (frame left n x t ∷ fs) t v) d (agree-turned right left n x t w fs refl))
+  agree-lowest left right n n′ x x′ w w′ t u fs gs e = let a = e .path in let b = e .under in agree-crossed left n x w t u fs _ (cc) (cc)
+  agree-lowest right left n n′ x x′ w w′ t u fs gs e = let a = e .path in let b = e .under in agree-crossed right n x w t u fs _ (cc) (cc)
 
   agree :
       (fs gs : List (Frame ℕ (Region K))) (t u : Tree ℕ (Region K)) → plug fs t ≡ plug gs u → labels fs ≡ labels gs → Distinct (plug fs t) → Agree fs gs t u

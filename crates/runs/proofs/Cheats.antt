@@ -1,9 +1,9 @@
 -- Cheats do not meet the promise.
 use mathlib.Core.Path.{_≡_, refl, sym, ap, _∙_, subst}
 use mathlib.Core.Logic.{_⊎_, inl, inr}
-use mathlib.Core.List.{List, [], _∷_, _++_}
+use mathlib.Core.List.{List, [], _∷_}
 use mathlib.Core.Bool.{Bool, true, false, cond}
-use Prim.Native.Nat.{ℕ, zero, suc, _+_, _-_, _≤_, _<_}
+use Prim.Native.Nat.{ℕ, suc, _≤_}
 use native.Mathlib.Omega.{arith}
 use native.Mathlib.Nat.{not-suc-le-zero}
 use lib.Dec.{T}
@@ -13,15 +13,15 @@ use Rattle.std.specs.declared.option.Option.the-variants.{Some, None}
 use Rattle.std.specs.declared.convert.Infallible.{Infallible}
 use Rattle.keys.specs.declared.whole.Whole.{Whole}
 use Rattle.store.specs.declared.node.Node.{Node}
-use Rattle.store.specs.Cells.{Cell, shut, readable, cell-at, all-shut}
+use Rattle.store.specs.Cells.{readable, cell-at, all-shut}
 use Rattle.store.specs.Fits.{Fit-cells}
 use Rattle.trees.specs.Regions.{Ranges, Region as Well-made, below, set-put}
 use Rattle.trees.specs.Trees.{Tree, leaf, node, inorder, seek}
-use Rattle.trees.specs.Edits.{Frame, frame, Place, place, whole, labels}
+use Rattle.trees.specs.Edits.{Frame, frame, place, whole, labels}
 use Rattle.store.specs.Nodes.{region, region-of}
 use Rattle.store.specs.declared.node.Region.{Region}
 use Rattle.runs.specs.declared.call.Call.{Call}
-use Rattle.runs.specs.declared.call.Call.the-variants.{Put, Drop, Step, Counts, Open}
+use Rattle.runs.specs.declared.call.Call.the-variants.{Put, Drop}
 use Rattle.runs.specs.declared.call.Answer.{Answer}
 use Rattle.runs.specs.declared.call.Answer.the-variants.{Pending, Opened, Closed, On, Nothing, Found, Nodes, Refused}
 use Rattle.runs.specs.declared.call.Argument.{Argument}
@@ -35,7 +35,7 @@ use Rattle.runs.specs.Table.{Scene, Fits, or-fault, free-needed, size, no-sess
 use Rattle.runs.specs.Effects.{Onward, Steps, no-place, finds, ends, goes-on, Step-tells, Step-answers}
 use Rattle.runs.specs.Runs.{Turn, turn, history, state, Left-during, Number-of}
 use Rattle.runs.specs.Promise.{Kept}
-use Rattle.runs.specs.Teeth.{Among, steps-told, Idle-put-fails, Tree-is-in-store, Has-node, Closing-all-fails, First-put-is-taken, First-drop-is-refused, Constant-fails, Few-are-free, Open-only-opens, None-is-compared, Steps-are-counted, Truth, Counts-tell-truth, Freed-at-once-fails, Cheats-fail, Second-put-leaves}
+use Rattle.runs.specs.Teeth.{Among, steps-told, Idle-put-fails, Tree-is-in-store, Closing-all-fails, First-put-is-taken, First-drop-is-refused, Constant-fails, Few-are-free, Open-only-opens, None-is-compared, Steps-are-counted, Counts-tell-truth, Freed-at-once-fails, Cheats-fail, Second-put-leaves}
 use Rattle.runs.specs.Examples.{span}
 use Rattle.trees.proofs.Places.{count-order}
 use Rattle.runs.proofs.Makes.{empty-tree, many-free}
@@ -121,7 +121,7 @@ module _ {K F : Type 0} (kd : Kind K F) where
   either (Nodes a b c) = inl refl
   either (Refused r) = inr (r, refl)
 
-  abbrev first-scene : State (Cells K) → Scene K F
+  abbrev pub first-scene : State (Cells K) → Scene K F
   first-scene z = record { past = []; state = z; place = place [] leaf }
 
   none-ill : (o p : Option F) (x : Argument × F) → o ≡ None → p ≡ None → or-fault Low o (or-fault High p None) ≡ Some x → ⊥
@@ -129,7 +129,7 @@ module _ {K F : Type 0} (kd : Kind K F) where
   none-ill None (Some f) x d e h = let z : _≡_ {A = ℕ} 0 1 = cc in omega arith
   none-ill (Some f) p x d e h = let z : _≡_ {A = ℕ} 0 1 = cc in omega arith
 
-  none-fits :
+  pub none-fits :
       (z : State (Cells K)) (low high : K) (rows : ℕ) (r : Refusal F) → Just-made (kd .filler) z → Fit-cells (z .memory) →
       Well-made (regions kd) (region low high rows) → Fits kd (first-scene z) (Put low high rows) r → ⊥
   none-fits z low high rows r made fit w (size _ h) = h (fit .range)

@@ -1,35 +1,35 @@
 -- What a call does, under a renaming of nodes.
 use mathlib.Core.Path.{_≡_, refl, sym, ap, _∙_, subst}
-use mathlib.Core.Logic.{_⊎_, inl, inr}
+use mathlib.Core.Logic.{inl, inr}
 use mathlib.Core.List.{List, [], _∷_, map}
-use mathlib.Core.Bool.{Bool, true, false, cond}
-use Prim.Native.Nat.{ℕ, zero, suc, _+_, _≤_, _<_}
+use Prim.Native.Nat.{ℕ, suc}
 use native.Mathlib.Omega.{arith}
-use lib.Dec.{T, eqb}
-use lib.ListN.{length, getD, set, List·getD-map, length-map}
+use lib.Dec.{T}
+use lib.ListN.{length, getD, set, List·getD-map}
 use lib.Seq.{map-set}
 use Rattle.std.specs.declared.option.Option.{Option}
 use Rattle.std.specs.declared.option.Option.the-variants.{Some, None}
 use Rattle.store.specs.declared.node.Node.{Node}
-use Rattle.store.specs.Cells.{Cell, shut, readable, mark-of, cell-at}
-use Rattle.trees.specs.Trees.{Turn, to-left, here, to-right, Tree, leaf, node, count, seek}
+use Rattle.store.specs.Cells.{readable, mark-of, cell-at}
+use Rattle.trees.specs.Trees.{Turn, to-left, here, to-right, Tree, leaf, node, seek}
 use Rattle.trees.specs.Rotations.{Label, kept, new}
-use Rattle.trees.specs.Edits.{Frame, frame, labels, Place, whole, Edit, Made, edited}
+use Rattle.trees.specs.Edits.{Frame, frame, labels, Place, Edit, Made, edited}
 use Rattle.trees.specs.Paths.{Made-as, new-at}
 use Rattle.store.specs.Nodes.{region-of}
 use Rattle.store.specs.declared.node.Region.{Region}
 use Rattle.runs.specs.declared.call.Call.{Call}
 use Rattle.runs.specs.declared.call.Call.the-variants.{Put, Drop, Split, Advance, Open, Step, Close, Counts}
 use Rattle.runs.specs.declared.call.Answer.{Answer}
-use Rattle.runs.specs.declared.call.Answer.the-variants.{Pending, Nodes}
+use Rattle.runs.specs.declared.call.Answer.the-variants.{Pending}
 use Rattle.runs.specs.declared.call.Refusal.{Refusal}
-use Rattle.runs.specs.Calls.{Kind, regions, edit-of, accepted}
+use Rattle.runs.specs.Calls.{Kind, regions, edit-of}
 use Rattle.runs.specs.Histories.{History, First, Lookup, lookup}
 use Rattle.runs.specs.States.{State, Cells, Row, row, closed, going, as-closed, row-of, member, waiting, Free}
 use Rattle.runs.specs.Table.{Scene, Fits, First-line}
 use Rattle.runs.specs.Effects.{Onward, Steps, no-place, finds, ends, goes-on, Step-tells, Step-answers, Edits-answer, Answers, Numbered-as, Tree-after, pending-after, treated-size, size-after, Done, Unaltered, Exact}
-use Rattle.runs.specs.Renamings.{relabel, relabel-path, relabel-place, renamed-label, renamed-made, Renaming, renamed-node, renamed-cell, renamed-row, Renamed}
+use Rattle.runs.specs.Renamings.{relabel, relabel-path, relabel-place, renamed-label, Renaming, renamed-node, renamed-cell, renamed-row, Renamed}
 use Rattle.runs.proofs.Relabels.{relabel-count, edits-rename}
+use Rattle.runs.proofs.Marks.{marks-same}
 use Rattle.runs.proofs.Renames.{to-zero, to-past, inverse, eqb-moves, member-moves, node-back, renamed-back, read-to, mark-to, free-to, relabel-plug, relabel-labels, place-back}
 use Rattle.runs.proofs.Carries.{scene, fits-to}
 
@@ -136,7 +136,7 @@ module _ {K F : Type 0} (kd : Kind K F) {N : ℕ} (ρ : Renaming N) (x y : State
   answers-to (Close s) a ws d =
       (d .0, set-to kd ρ x y r ws s (as-closed (row-of x s)) (as-closed (row-of y s)) (d .1) (ap as-closed (row-to kd ρ x y r s)))
   answers-to Counts a ws d =
-      let live = r .marks 1 in let waits = r .marks 2 in let free = r .marks 0 in
+      let live = marks-same ρ x y r 1 in let waits = marks-same ρ x y r 2 in let free = marks-same ρ x y r 0 in
       let e = d .0 in
       ((cc), kept-rows kd ρ x y r ws (d .1))
 

@@ -1,14 +1,12 @@
 -- What is promised at a moment of a run is promised of the run renamed.
-use mathlib.Core.Path.{_≡_, refl, sym, ap, _∙_, subst}
-use mathlib.Core.Logic.{_⊎_, inl, inr}
-use mathlib.Core.List.{List, [], _∷_, map}
-use Prim.Native.Nat.{ℕ, suc, _+_, _-_, _≤_, _<_}
+use mathlib.Core.Path.{_≡_, sym, ap, _∙_, subst}
+use mathlib.Core.Logic.{inl, inr}
+use mathlib.Core.List.{List, [], _∷_}
+use Prim.Native.Nat.{ℕ, suc, _-_, _≤_}
 use native.Mathlib.Omega.{arith}
 use lib.Dec.{T, eqb}
 use lib.ListN.{length, length-map}
-use Rattle.std.specs.declared.option.Option.{Option}
-use Rattle.std.specs.declared.option.Option.the-variants.{Some, None}
-use Rattle.store.specs.declared.node.Node.{Node}
+use Rattle.std.specs.declared.option.Option.the-variants.{Some}
 use Rattle.store.specs.Cells.{Cell, shut, readable, mark-of, cell-at}
 use Rattle.store.specs.Fits.{In-range, Fit-cells}
 use Rattle.trees.specs.Regions.{Region-set}
@@ -20,14 +18,15 @@ use Rattle.store.specs.declared.node.Region.{Region}
 use Rattle.runs.specs.declared.call.Answer.{Answer}
 use Rattle.runs.specs.declared.call.Call.{Call}
 use Rattle.runs.specs.Calls.{Kind, regions}
-use Rattle.runs.specs.Histories.{History, First, Lookup, lookup, set-of, to-do, open-since, seat-key, bits}
-use Rattle.runs.specs.States.{State, Cells, Row, row-of, pool, In-pool, live-nodes, waiting-nodes, free-nodes, In-tree, Tree-at}
+use Rattle.runs.specs.Histories.{History, Lookup, lookup, set-of, to-do, open-since, seat-key, bits}
+use Rattle.runs.specs.States.{State, Cells, Row, row-of, pool, waiting-nodes, In-tree}
 use Rattle.runs.specs.Effects.{Exact}
-use Rattle.runs.specs.Runs.{Turn, history, state, Left-after, Left-during, Number-of}
+use Rattle.runs.specs.Runs.{Turn, history, state, Left-during, Number-of}
 use Rattle.runs.specs.Promise.{None-14, Last-exact, Other-nodes, True-at, Place-stands, Kept}
 use Rattle.runs.specs.Renamings.{relabel, relabel-place, Renaming, renamed-node, renamed-cell, Renamed, Renamed-turns, Kept-renames}
+use Rattle.runs.proofs.Marks.{marks-same}
 use Rattle.runs.proofs.Renames.{to-zero, inverse, inside-moves, renamed-back, read-to, mark-to, pool-to, tree-to, in-tree-to, relabel-order, relabel-height, relabel-balanced, relabel-plug, place-back}
-use Rattle.runs.proofs.Carries.{turns-length, turns-history, turns-back, state-to, left-after-to, left-during-to, left-during-from, number-to, scene}
+use Rattle.runs.proofs.Carries.{turns-history, turns-back, state-to, left-after-to, left-during-to, number-to, scene}
 use Rattle.runs.proofs.Deeds.{row-to, exact-to}
 
 shut-was : {K : Type 0} (f : ℕ → ℕ) (c : Cell K) (m : ℕ) → renamed-cell f c ≡ shut m → c ≡ shut m
@@ -136,9 +135,9 @@ module _ {K F : Type 0} (kd : Kind K F) {N : ℕ} (ρ : Renaming N) (z y : State
           subst (Place-stands kd y us) (sym (ap (λ (w : Row). w .place) (row-to kd ρ (state z ts) (state y us) now s)))
           (place-to (row-of (state z ts) s .place) (k .places-stand s l (lookup-was s l e)));
       lookups-end = λ s l e n f. k .lookups-end s l (lookup-was s l e) (subst (λ (m : ℕ). m ≤ l .steps) pool-same n) f;
-      adds-up = let a = now .marks 1 in let b = now .marks 2 in let c = now .marks 0 in let d = k .adds-up in let e = pool-same in omega arith;
-      live-are-regions = now .marks 1 ∙ k .live-are-regions ∙ ap (λ (g : History K F). length (set-of kd g)) (sym same);
-      waiting-have-left = subst (Number-of (Left-during y us)) (sym (now .marks 2)) (number-to ρ z y ts us r h (waiting-nodes (state z ts .memory)) (k .waiting-have-left));
+      adds-up = let a = marks-same ρ (state z ts) (state y us) now 1 in let b = marks-same ρ (state z ts) (state y us) now 2 in let c = marks-same ρ (state z ts) (state y us) now 0 in let d = k .adds-up in let e = pool-same in omega arith;
+      live-are-regions = marks-same ρ (state z ts) (state y us) now 1 ∙ k .live-are-regions ∙ ap (λ (g : History K F). length (set-of kd g)) (sym same);
+      waiting-have-left = subst (Number-of (Left-during y us)) (sym (marks-same ρ (state z ts) (state y us) now 2)) (number-to ρ z y ts us r h (waiting-nodes (state z ts .memory)) (k .waiting-have-left));
       balanced-at-rest = λ e. subst Balanced (sym (whole-to (k .place))) (relabel-balanced (ρ .to) (whole (k .place)) (k .balanced-at-rest (at-rest-was e)));
       low-at-rest = λ e.
           let a = ap height (whole-to (k .place)) ∙ relabel-height (ρ .to) (whole (k .place)) in let b = k .low-at-rest (at-rest-was e) in omega arith;

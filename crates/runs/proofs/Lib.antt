@@ -5,7 +5,9 @@ pub mod Links
 pub mod Cheats
 pub mod Relabels
 pub mod Renames
+pub mod Marks
 pub mod Carries
 pub mod Deeds
 pub mod Kepts
 pub mod Chains
+pub mod Puts

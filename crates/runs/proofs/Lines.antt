@@ -2,7 +2,7 @@
 use mathlib.Core.Path.{_≡_, refl, sym, ap, _∙_}
 use mathlib.Core.Bool.{Bool, true, false, cond}
 use lib.Dec.{eqb}
-use Prim.Native.Nat.{ℕ, _≤_, _<_, zero, suc}
+use Prim.Native.Nat.{ℕ, _≤_, _<_}
 use native.Mathlib.Omega.{arith}
 use Rattle.std.specs.declared.option.Option.{Option}
 use Rattle.std.specs.declared.option.Option.the-variants.{Some, None}
@@ -15,7 +15,7 @@ use Rattle.runs.specs.declared.call.Refusal.{Refusal}
 use Rattle.runs.specs.declared.call.Refusal.the-variants.{BadSize, NoSession, HasLookup, NoLookup, IllFormed, NotBelow, UnderWay, AtRest, Overlaps, NoRegion, SameAsLow, Full, FewFree}
 use Rattle.runs.specs.Calls.{Kind, number-of}
 use Rattle.runs.specs.States.{free-nodes}
-use Rattle.runs.specs.Table.{Scene, first-ill, keys-of, free-needed, Fits, First-line, size, no-session, has-lookup, no-lookup, ill-formed, not-below, under-way, at-rest, overlapping, no-region, same-as-low, full, few-free}
+use Rattle.runs.specs.Table.{Scene, first-ill, keys-of, free-needed, Fits, size, no-session, has-lookup, no-lookup, ill-formed, not-below, under-way, at-rest, overlapping, no-region, same-as-low, full, few-free}
 use Rattle.runs.specs.Teeth.{One-refusal}
 
 abbrev told-ill : {F : Type 0} → Option (Argument × F) → Refusal F

@@ -4,17 +4,17 @@ use mathlib.Core.Logic.{_⊎_, inl, inr}
 use mathlib.Core.Bool.{Bool, true, false, cond}
 use borrow.Author.Tests.{eqb-true, eq-eqb}
 use mathlib.Core.List.{List, [], _∷_, _++_}
-use Prim.Native.Nat.{ℕ, zero, suc, _≤_, _<_, _+_}
+use Prim.Native.Nat.{ℕ, zero, suc, _≤_, _+_}
 use native.Mathlib.Omega.{arith}
 use lib.Dec.{eqb}
 use Rattle.store.specs.declared.node.Node.{Node}
-use Rattle.store.specs.Cells.{Cell, readable, cell-at}
+use Rattle.store.specs.Cells.{readable, cell-at}
 use Rattle.trees.specs.Trees.{Tree, leaf, node, inorder}
 use Rattle.trees.specs.Edits.{whole}
 use Rattle.trees.specs.Paths.{inside, In}
 use Rattle.store.specs.Nodes.{region-of}
 use Rattle.store.specs.declared.node.Region.{Region}
-use Rattle.runs.specs.States.{State, Cells, In-pool, Spells, Leads, there, by-left, by-right}
+use Rattle.runs.specs.States.{Cells, In-pool, Spells, Leads, there, by-left, by-right}
 use Rattle.runs.specs.Teeth.{One-tree, Among}
 
 split-in : (b : Bool) (a c : ℕ) → 1 ≤ cond b 1 0 + (a + c) → (b ≡ true) ⊎ ((1 ≤ a) ⊎ (1 ≤ c))

@@ -1,14 +1,14 @@
 -- The making meets the promise.
 use Rattle.store.specs.Nodes.{plain}
 use mathlib.Core.Path.{_≡_, refl, sym, ap, _∙_, subst}
-use mathlib.Core.Logic.{_⊎_, inl, inr}
-use mathlib.Core.List.{List, [], _∷_, _++_}
-use mathlib.Core.Bool.{Bool, true, false, cond}
+use mathlib.Core.Logic.{inl, inr}
+use mathlib.Core.List.{[], _∷_, _++_}
+use mathlib.Core.Bool.{false}
 use Prim.Native.Nat.{ℕ, zero, suc, _+_, _-_, _≤_, _<_}
 use native.Mathlib.Omega.{arith}
 use native.Mathlib.Nat.{not-suc-le-zero}
 use lib.Dec.{eqb}
-use lib.ListN.{length, getD, drop, replicate, List·getD-append, getD-replicate, length-append}
+use lib.ListN.{length, getD, List·getD-append, getD-replicate, length-append}
 use lib.Seq.{getD-append-add}
 use Rattle.std.specs.declared.option.Option.{Option}
 use Rattle.std.specs.declared.option.Option.the-variants.{Some, None}
@@ -19,7 +19,6 @@ use Rattle.trees.specs.Edits.{place}
 use Rattle.runs.specs.Calls.{Kind}
 use Rattle.runs.specs.Histories.{Lookup}
 use Rattle.runs.specs.States.{State, Cells, pool, with-mark, live-nodes, waiting-nodes, free-nodes, Tree-at, Fresh, All-fresh, fresh-seats, Just-made}
-use Rattle.runs.specs.Promise.{Kept}
 use Rattle.runs.specs.Teeth.{Making-keeps}
 
 module _ {K : Type 0} (filler : K) where
@@ -46,13 +45,13 @@ module _ {K : Type 0} (filler : K) where
   sums : (p : Cells K) → All-fresh filler p → live-nodes (start ++ p) + waiting-nodes (start ++ p) + free-nodes (start ++ p) ≡ pool (start ++ p)
   sums p a = rw (none-marked 1 p a refl, none-marked 2 p a refl, all-marked p a) (omega arith)
 
-  seat-at : (p : Cells K) (s : ℕ) → s < 32 → cell-at (start ++ p) (suc s) ≡ readable (plain 3 filler filler)
+  pub seat-at : (p : Cells K) (s : ℕ) → s < 32 → cell-at (start ++ p) (suc s) ≡ readable (plain 3 filler filler)
   seat-at p s h =
       let e : suc s - 1 ≡ s = omega arith in
       ap (λ (k : ℕ). getD (start ++ p) k (shut 0)) e ∙ List·getD-append start p (shut 0) s h ∙
       getD-replicate 32 s (readable (plain 3 filler filler)) (shut 0) h
 
-  rest-at : (p : Cells K) → All-fresh filler p → (q : ℕ) → 32 < q → mark-of (cell-at (start ++ p) q) ≡ 0
+  pub rest-at : (p : Cells K) → All-fresh filler p → (q : ℕ) → 32 < q → mark-of (cell-at (start ++ p) q) ≡ 0
   rest-at p a q h =
       let e : q - 1 ≡ 32 + (q - 33) = omega arith in
       ap (λ (k : ℕ). mark-of (getD (start ++ p) k (shut 0))) e ∙ ap mark-of (getD-append-add start p (q - 33) (shut 0)) ∙ fresh-at p a (q - 33)

@@ -1,13 +1,13 @@
 -- What an edit makes of a tree does not depend on the numbers of its nodes.
-use mathlib.Core.Path.{_≡_, refl, sym, ap, _∙_}
+use mathlib.Core.Path.{_≡_, refl, ap, _∙_}
 use mathlib.Core.List.{List, [], _∷_}
 use mathlib.Core.Bool.{Bool, true, false}
-use Prim.Native.Nat.{ℕ, suc, _+_, _*_}
+use Prim.Native.Nat.{ℕ, _*_}
 use lib.Dec.{ltb}
 use Rattle.trees.specs.Regions.{Ranges}
-use Rattle.trees.specs.Trees.{Side, left, right, Turn, to-left, here, to-right, at-turn, Tree, leaf, node, pick, beside, count, weight, seek}
+use Rattle.trees.specs.Trees.{Side, left, right, Turn, to-left, here, to-right, at-turn, Tree, leaf, node, count, weight, seek}
 use Rattle.trees.specs.Rotations.{Label, kept, new, single, double, rotate-by, rotate, too-heavy, balance-by, balance}
-use Rattle.trees.specs.Edits.{Frame, frame, Place, place, standing, made-at, descend, settled, sprout, least, rebuilt, joined, dropped, with-least, parted, Edit, Put, Drop, Split, Advance, edited, advanced}
+use Rattle.trees.specs.Edits.{Frame, frame, Place, standing, made-at, descend, settled, sprout, least, rebuilt, joined, dropped, with-least, parted, Put, Drop, Split, Advance, advanced}
 use Rattle.runs.specs.Renamings.{relabel, relabel-path, relabel-place, renamed-label, renamed-made, Edits-rename}
 
 pub relabel-count : {L M R : Type 0} (f : L → M) (t : Tree L R) → count (relabel f t) ≡ count t

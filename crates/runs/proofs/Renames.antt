@@ -1,24 +1,20 @@
 -- States and trees under a renaming of nodes.
 use mathlib.Core.Path.{_≡_, refl, sym, ap, _∙_, subst}
-use mathlib.Core.Logic.{_⊎_, inl, inr}
 use mathlib.Core.List.{List, [], _∷_, map}
-use mathlib.Core.Bool.{Bool, true, false, cond, _||_}
-use Prim.Native.Nat.{ℕ, zero, suc, _+_, _≤_, _<_}
+use mathlib.Core.Bool.{Bool, true, false}
+use Prim.Native.Nat.{ℕ, _≤_, _<_}
 use native.Mathlib.Omega.{arith}
 use native.Mathlib.Decide.{decLe}
 use borrow.Author.Tests.{eqb-true, eq-eqb}
-use lib.Dec.{T, eqb}
-use lib.ListN.{length, drop}
+use lib.Dec.{eqb}
 use Rattle.store.specs.declared.node.Node.{Node}
 use Rattle.store.specs.Cells.{Cell, shut, readable, mark-of, cell-at}
-use Rattle.trees.specs.Trees.{Side, left, right, Tree, leaf, node, beside, count, inorder, height, Balanced}
-use Rattle.trees.specs.Rotations.{Label, kept, new}
+use Rattle.trees.specs.Trees.{Side, left, right, Tree, leaf, node, beside, inorder, height, Balanced}
 use Rattle.trees.specs.Edits.{Frame, frame, labels, Place, place, plug, whole}
-use Rattle.trees.specs.Paths.{inside, Distinct, Made-as, new-at}
+use Rattle.trees.specs.Paths.{inside}
 use Rattle.store.specs.declared.node.Region.{Region}
 use Rattle.runs.specs.States.{State, Cells, Row, row, member, In-pool, Free, Spells, Leads, there, by-left, by-right, Tree-at, In-tree}
-use Rattle.runs.specs.Runs.{Turn, history, state, state-at, Left-after, Left-during, All-different, Number-of}
-use Rattle.runs.specs.Renamings.{relabel, relabel-path, relabel-place, renamed-label, Renaming, renamed-node, renamed-cell, renamed-row, Renamed, Renamed-turns}
+use Rattle.runs.specs.Renamings.{relabel, relabel-path, relabel-place, Renaming, renamed-node, renamed-cell, renamed-row, Renamed}
 use Rattle.runs.proofs.Relabels.{relabel-count}
 
 -- two tests that pass together are one
@@ -147,7 +143,6 @@ module _ {N : ℕ} (ρ : Renaming N) where
     as-many = r .has-nodes;
     nodes = λ n.
         sym (cell-back (cell-at (x .memory) (ρ .from n))) ∙ ap (renamed-cell (ρ .from)) (sym (r .nodes (ρ .from n)) ∙ ap (cell-at (y .memory)) (ρ .to-from n));
-    marks = λ m. sym (r .marks m);
     root = sym (ρ .from-to (x .root)) ∙ ap (ρ .from) (sym (r .root));
     pending = sym (map-back (ρ .to) (ρ .from) (ρ .from-to) (x .pending)) ∙ ap (map (ρ .from)) (sym (r .pending));
     rows = sym (map-back (renamed-row (ρ .to)) (renamed-row (ρ .from)) row-back (x .rows)) ∙ ap (map (renamed-row (ρ .from))) (sym (r .rows));

@@ -1,7 +1,7 @@
 -- Histories of whole keys, read by the definitions.
 use mathlib.Core.Path.{_≡_}
 use mathlib.Core.List.{List, [], _∷_}
-use Prim.Native.Nat.{ℕ, _+_}
+use Prim.Native.Nat.{ℕ}
 use lib.IntN.{pos}
 use Rattle.std.specs.declared.option.Option.{Option}
 use Rattle.std.specs.declared.option.Option.the-variants.{Some, None}
@@ -12,7 +12,7 @@ use Rattle.trees.specs.Regions.{gives}
 use Rattle.store.specs.Nodes.{region}
 use Rattle.store.specs.declared.node.Region.{Region}
 use Rattle.runs.specs.declared.call.Call.{Call}
-use Rattle.runs.specs.declared.call.Call.the-variants.{Put, Drop, Split, Advance, Open, Step, Close, Counts}
+use Rattle.runs.specs.declared.call.Call.the-variants.{Put, Drop, Advance, Open, Step, Close, Counts}
 use Rattle.runs.specs.declared.call.Answer.{Answer}
 use Rattle.runs.specs.declared.call.Answer.the-variants.{Pending, Opened, Closed, On, Nothing, Found, Nodes, Refused}
 use Rattle.runs.specs.declared.call.Refusal.the-variants.{UnderWay, HasLookup, NoLookup, NoRegion}

@@ -1,7 +1,7 @@
 -- What follows from a history alone: from the calls, their arguments and their answers. The newest call comes first.
 -- Moment 0 is after the making, and moment m after call number m. Refused calls are calls too, and have their moments.
 use mathlib.Core.List.{List, [], _∷_}
-use mathlib.Core.Bool.{Bool, true, false, cond}
+use mathlib.Core.Bool.{Bool, false, cond}
 use Prim.Native.Nat.{ℕ, zero, suc, _+_, _-_, _^_}
 use lib.Dec.{eqb, leb}
 use lib.ListN.{length, drop}

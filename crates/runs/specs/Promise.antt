@@ -5,7 +5,6 @@ use mathlib.Core.List.{List, [], _∷_}
 use Prim.Native.Nat.{ℕ, suc, _+_, _≤_, _<_}
 use lib.Dec.{T}
 use lib.ListN.{length}
-use Rattle.std.specs.declared.option.Option.{Option}
 use Rattle.std.specs.declared.option.Option.the-variants.{Some, None}
 use Rattle.store.specs.declared.node.Node.{Node}
 use Rattle.store.specs.declared.fault.StoreFault.{StoreFault}
@@ -25,7 +24,6 @@ use Rattle.runs.specs.declared.call.Refusal.the-variants.{BadSize, StoreRefuse
 use Rattle.runs.specs.Calls.{Kind, regions}
 use Rattle.runs.specs.Histories.{History, at, set-of, to-do, First, Lookup, lookup, open-since, seat-key, bits}
 use Rattle.runs.specs.States.{State, Cells, meant, row-of, pool, In-pool, live-nodes, waiting-nodes, free-nodes, In-tree, Tree-at, Just-made}
-use Rattle.runs.specs.Table.{Scene}
 use Rattle.runs.specs.Effects.{Exact}
 use Rattle.runs.specs.Runs.{Turn, history, state, meant-turns, Left-after, Left-during, Run, Number-of}
 

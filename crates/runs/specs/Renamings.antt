@@ -2,16 +2,15 @@
 use mathlib.Core.Path.{_≡_}
 use mathlib.Core.List.{List, [], _∷_, map}
 use Prim.Native.Nat.{ℕ, _≤_}
-use lib.ListN.{length, drop}
+use lib.ListN.{length}
 use Rattle.store.specs.declared.node.Node.{Node}
 use Rattle.store.specs.Cells.{Cell, shut, readable, cell-at}
 use Rattle.trees.specs.Regions.{Ranges}
 use Rattle.trees.specs.Trees.{Tree, leaf, node}
 use Rattle.trees.specs.Rotations.{Label, kept, new}
 use Rattle.trees.specs.Edits.{Frame, frame, Place, place, Edit, Made, edited}
-use Rattle.store.specs.declared.node.Region.{Region}
-use Rattle.runs.specs.Calls.{Kind, regions}
-use Rattle.runs.specs.States.{State, Cells, Row, row, with-mark}
+use Rattle.runs.specs.Calls.{Kind}
+use Rattle.runs.specs.States.{State, Cells, Row, row}
 use Rattle.runs.specs.Runs.{Turn}
 use Rattle.runs.specs.Promise.{Kept}
 
@@ -69,7 +68,6 @@ pub record Renamed {K : Type 0} {N : ℕ} (ρ : Renaming N) (x y : State (Cells 
   pub has-nodes : length (x .memory) ≡ N
   pub as-many : length (y .memory) ≡ N
   pub nodes : (n : ℕ) → cell-at (y .memory) (ρ .to n) ≡ renamed-cell (ρ .to) (cell-at (x .memory) n)
-  pub marks : (m : ℕ) → with-mark m (drop 32 (y .memory)) ≡ with-mark m (drop 32 (x .memory))
   pub root : y .root ≡ ρ .to (x .root)
   pub pending : y .pending ≡ map (ρ .to) (x .pending)
   pub rows : y .rows ≡ map (renamed-row (ρ .to)) (x .rows)

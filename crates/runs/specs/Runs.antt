@@ -1,13 +1,13 @@
 -- Runs: a catalogue and its memory from the making on, in the sole care of the eight calls. The newest call comes first.
 use mathlib.Core.Path.{_≡_}
 use mathlib.Core.List.{List, [], _∷_}
-use mathlib.Core.Bool.{Bool, false}
+use mathlib.Core.Bool.{false}
 use Prim.Native.Nat.{ℕ, suc, _-_, _<_}
 use lib.Dec.{T}
 use lib.ListN.{length, drop}
 use Rattle.runs.specs.declared.call.Call.{Call}
 use Rattle.runs.specs.declared.call.Answer.{Answer}
-use Rattle.runs.specs.Histories.{Event, History, open-since}
+use Rattle.runs.specs.Histories.{History, open-since}
 use Rattle.runs.specs.States.{State, Cells, meant, In-tree, member}
 
 -- a call of a run, its answer, and the state after it

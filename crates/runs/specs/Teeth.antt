@@ -7,13 +7,12 @@ use Prim.Native.Nat.{ℕ, suc, _+_, _≤_, _<_}
 use lib.ListN.{length, set}
 use Rattle.std.specs.declared.option.Option.{Option}
 use Rattle.std.specs.declared.option.Option.the-variants.{Some, None}
-use Rattle.std.specs.declared.convert.Infallible.{Infallible}
 use Rattle.keys.specs.declared.whole.Whole.{Whole}
 use Rattle.store.specs.declared.node.Node.{Node}
 use Rattle.store.specs.Cells.{readable, cell-at, all-shut}
 use Rattle.store.specs.Fits.{Fit-cells}
-use Rattle.trees.specs.Regions.{Region as Well-made, below}
-use Rattle.trees.specs.Trees.{Tree, seek}
+use Rattle.trees.specs.Regions.{Region as Well-made}
+use Rattle.trees.specs.Trees.{seek}
 use Rattle.trees.specs.Paths.{In, Distinct}
 use Rattle.trees.specs.Edits.{Place, whole}
 use Rattle.store.specs.Nodes.{region, region-of}
@@ -26,7 +25,7 @@ use Rattle.runs.specs.declared.call.Refusal.{Refusal}
 use Rattle.runs.specs.declared.call.Refusal.the-variants.{FewFree}
 use Rattle.runs.specs.Calls.{Kind, regions, accepted}
 use Rattle.runs.specs.Histories.{Lookup, lookup, set-of, to-do}
-use Rattle.runs.specs.States.{State, Cells, row, going, row-of, pool, live-nodes, waiting-nodes, free-nodes, In-pool, In-tree, Tree-at, Just-made}
+use Rattle.runs.specs.States.{State, Cells, row, going, row-of, pool, waiting-nodes, free-nodes, In-pool, In-tree, Tree-at, Just-made}
 use Rattle.runs.specs.Table.{Scene, First-line}
 use Rattle.runs.specs.Effects.{Onward, Exact}
 use Rattle.runs.specs.Runs.{Turn, turn, history, state, Left-during, Number-of}
@@ -76,6 +75,12 @@ module _ {K F : Type 0} (kd : Kind K F) where
   -- THE MAKING MEETS IT
   abbrev pub Making-keeps : Type 0
   Making-keeps = (z : State (Cells K)) → Just-made (kd .filler) z → Fit-cells (z .memory) → Kept kd z []
+
+  -- and it can be met after a call: the first put of a region with well-formed keys, low below high, can leave a state that meets it
+  abbrev pub First-put-can-keep : Type 0
+  First-put-can-keep =
+      (z : State (Cells K)) (low high : K) (rows : ℕ) → Just-made (kd .filler) z → Fit-cells (z .memory) →
+      Well-made (regions kd) (region low high rows) → (y : State (Cells K)) × Kept kd z (turn (Put low high rows) (Pending 0) y ∷ [])
 
   -- CHEATS, and what each is refuted by
 

@@ -11,6 +11,7 @@ pub use call::Refusal;
 pub use theorems::cheats_fail;
 pub use theorems::edits_rename;
 pub use theorems::examples_stand;
+pub use theorems::first_put_can_keep;
 pub use theorems::kept_renames;
 pub use theorems::making_keeps;
 pub use theorems::place_is_enough;

@@ -2,7 +2,7 @@
 ghost use Rattle.runs.specs.Calls.{kind, regions};
 ghost use Rattle.runs.specs.Examples.{Printed-reads, Reopened-reads, Untrue-fail};
 ghost use Rattle.runs.specs.Renamings.{Edits-rename, Kept-renames};
-ghost use Rattle.runs.specs.Teeth.{One-tree, Place-is-enough, One-refusal, Making-keeps, Cheats-fail, Thirteen-is-true, Second-put-leaves};
+ghost use Rattle.runs.specs.Teeth.{One-tree, Place-is-enough, One-refusal, Making-keeps, First-put-can-keep, Cheats-fail, Thirteen-is-true, Second-put-leaves};
 use keys::Key;
 
 // What follows from the printed example's history at each moment; from one with a session opened again; and answers that are not true.
@@ -17,6 +17,13 @@ pub fn examples_stand() -> u8
 // A catalogue just made over a fit store meets the whole promise.
 pub fn making_keeps<K: Key>() -> u8
     ensures { λ _. ⌜ Making-keeps (kind (K·Ordered .fault) (K·Ordered .order) (K·Key .blank)) ⌝ }
+{
+    0
+}
+
+// It can be met after a call too: the first put of a proper region.
+pub fn first_put_can_keep<K: Key>() -> u8
+    ensures { λ _. ⌜ First-put-can-keep (kind (K·Ordered .fault) (K·Ordered .order) (K·Key .blank)) ⌝ }
 {
     0
 }

@@ -1,0 +1,3 @@
+pub mod Arena
+pub mod Seeing
+pub mod Turning
