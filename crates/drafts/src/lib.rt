@@ -1,4 +1,6 @@
 // What an edit builds before it writes anything: links, a draft of new nodes, and the balance rule.
+#![tactic(auto)]
+
 mod draft;
 mod link;
 mod sides;

@@ -1,4 +1,6 @@
 // What a store holds, as text: a line for each node that is not free, and a line that counts them by mark.
+#![tactic(auto)]
+
 mod line;
 mod printable;
 mod sweep;

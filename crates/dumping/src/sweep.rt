@@ -7,8 +7,7 @@ ghost use Rattle.dumping.specs.Dumps.{line_of, cell_line, dumped};
 use crate::line::{Line, Mark};
 use crate::printable::Printable;
 use crate::totals::Totals;
-use std::alloc::Global;
-use std::fmt;
+use std::alloc::{AllocError, Global};
 use store::{FREE, Store};
 
 // Adds the line of node n, if it has one, and counts its mark.
@@ -17,7 +16,7 @@ fn dump_cell<K: Printable, S: Store<Key = K>>(
     totals: &mut Totals,
     store: &S,
     n: usize,
-) -> fmt::Result
+) -> Result<(), AllocError>
     requires from { 0 < n }
     requires to { n ≤ length (S.Store.cells store.now) }
     requires few { all_marked totals.old < 18446744073709551615 }
@@ -40,7 +39,7 @@ fn dump_cell<K: Printable, S: Store<Key = K>>(
 
 // What a store holds: a line for each node that is not free, with its number, then a line that counts the nodes by mark.
 // The only error is want of memory.
-pub fn dump<K: Printable, S: Store<Key = K>>(heap: Global, store: &S) -> Result<String, fmt::Error>
+pub fn dump<K: Printable, S: Store<Key = K>>(heap: Global, store: &S) -> Result<String, AllocError>
     ensures { IfOk result (λ s. string_bytes s ≡ dumped K.Printable.held (S.Store.cells store.now)) }
 {
     let mut out = String::new(heap);

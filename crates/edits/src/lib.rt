@@ -1,4 +1,6 @@
 // The writer's calls over any store: edits of the tree.
+#![tactic(auto)]
+
 mod fault;
 mod pending;
 

@@ -1,4 +1,6 @@
 // The worked examples of the rules, proved as one list.
+#![tactic(auto)]
+
 ghost use Rattle.examples.specs.Worked.{Worked};
 
 // A theorem: every example of the list. The number means nothing.

@@ -1,4 +1,6 @@
 // Put, drop and split over any store: a search ends at a link, and what stands there gives way to what is drafted for it.
+#![tactic(auto)]
+
 mod asks;
 mod dropping;
 mod ends;

@@ -1,15 +1,18 @@
 // Dumps the sample memory images in data/, one for each kind of keys.
+#![tactic(auto)]
+
 use anyhow::anyhow;
 use dumping::dump;
 use keys::{Decimal, Text, Whole};
 use packed::ByteStore;
-use std::{fmt, fs};
+use std::alloc::AllocError;
+use std::fs;
 use store::{Guard, Store};
 
 fn print_text(
     rt: &HostRuntime,
     title: &str,
-    text: Result<String, fmt::Error>,
+    text: Result<String, AllocError>,
 ) -> anyhow::Result<()> {
     println!(rt; "== {title}")?;
     match text {

@@ -1,4 +1,6 @@
 // The reader of a log: from its bytes to the calls that they ask for, one record at a time.
+#![tactic(auto)]
+
 mod format;
 mod laws;
 mod reader;

@@ -1,12 +1,12 @@
 -- One step of the search for a byte past a text's length, and what the check then answers.
-use Rattle.std.proofs.Common.{◌≡◌, ℕ, ◌+◌, ◌<◌, ◌≤◌, List, [], ◌∷◌, length, get_or, drop, Some, None, Option, Result, sym, refl, ap, ◌∙◌}
+use Rattle.std.proofs.Common.{◌≡◌, ℕ, ◌+◌, ◌<◌, ◌≤◌, List, length, get_or, drop, Some, None, Option, Result, sym, ap, ◌∙◌}
 use Rattle.std.proofs.lemmas.List.{drop_more, drop_all}
 use Rattle.std.proofs.lemmas.Bool.{eq-eqb, ne_eqb, le-ltb}
 use Rattle.keys.specs.declared.text.Text.{Text}
 use Rattle.keys.specs.declared.text.TextFault.{TextFault}
 use Rattle.keys.specs.declared.text.TextFault.TheVariants.{Stray}
-use Rattle.keys.specs.Orders.{checked, first_fault}
-use Rattle.keys.specs.Texts.{stray_fault, length_fault, text_fault}
+use Rattle.keys.specs.Orders.{checked}
+use Rattle.keys.specs.Texts.{stray_fault, text_fault}
 
 pub zero_passed : (bs : List ℕ) (i : ℕ) → i < length bs → get_or bs i 0 ≡ 0 → stray_fault i (drop i bs) ≡ stray_fault (i + 1) (drop (i + 1) bs)
 zero_passed bs i h e = ap (stray_fault i) (drop_more bs i 0 h) ∙ rw (eq-eqb (get_or bs i 0) 0 e)

@@ -1,5 +1,5 @@
 -- What the comparison of each kind tells, said as a relation.
-use Rattle.std.specs.Prelude.{◌≡◌, ℕ, ◌<◌, List, take, ℤ, ◌<ℤ◌}
+use Rattle.std.specs.Prelude.{◌≡◌, ℕ, ◌<◌, List, take, ◌<ℤ◌}
 use Rattle.keys.specs.declared.order.Order.{Order}
 use Rattle.keys.specs.declared.order.Order.TheVariants.{Below, Same, Above}
 use Rattle.keys.specs.declared.whole.Whole.{Whole}

@@ -1,4 +1,6 @@
 // The keys of a range catalogue: what an order is, what a key adds to it, and three kinds of key.
+#![tactic(auto)]
+
 ghost use Rattle.keys.specs.Meanings.{ComparisonsTell};
 
 mod bytes;

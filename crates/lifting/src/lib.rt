@@ -1,5 +1,7 @@
 // What the edits draft, as trees: from the memory and the new nodes to the trees that they stand for. There is nothing to run here:
 // each function stands for a theorem, which its contract names and its proof proves. The definitions are in specs/.
+#![tactic(auto)]
+
 ghost use Rattle.lifting.specs.Theorems.{SpelledStands, OffPath, Seeing, Reading, BalanceLifts, RotationLifts, WalkLifts, MergedLifts, PartedLifts};
 ghost use Rattle.lifting.specs.Ways.{HolderDescends, OverlapDescends};
 ghost use Rattle.runs.specs.Calls.{kind};

@@ -1,4 +1,6 @@
 // What a log asks for, as text: a line a record, and a closing line.
+#![tactic(auto)]
+
 mod call;
 mod lines;
 mod tally;

@@ -8,11 +8,10 @@ ghost use Rattle.listing.specs.Listings.{all_lines, listed};
 use crate::call::Call;
 use crate::tally::Tally;
 use journal::Reader;
-use std::alloc::Global;
-use std::fmt;
+use std::alloc::{AllocError, Global};
 
 // Adds a line for each record, then a closing line, or that of the log's fault.
-fn list_records(out: &mut String, mut reader: Reader, log: &[u8]) -> fmt::Result
+fn list_records(out: &mut String, mut reader: Reader, log: &[u8]) -> Result<(), AllocError>
     requires same { log_of reader ≡ log.now }
     requires few { records_left (left reader) ≤ length log.now }
     ensures { OnOk result (string_bytes out.new ≡ string_bytes out.old ++ all_lines (keys_of reader.entry) log.now 0 none_counted (left reader.entry)) }
@@ -35,7 +34,7 @@ fn list_records(out: &mut String, mut reader: Reader, log: &[u8]) -> fmt::Result
 
 // What a log asks for: a line a record with its number, then a line that counts them by kind.
 // A fault of the log has a line of its own, which is then the last. The only error is want of memory.
-pub fn list(heap: Global, log: &[u8]) -> Result<String, fmt::Error>
+pub fn list(heap: Global, log: &[u8]) -> Result<String, AllocError>
     ensures { IfOk result (λ s. string_bytes s ≡ listed log.now) }
 {
     let mut out = String::new(heap);

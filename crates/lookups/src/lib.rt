@@ -1,6 +1,8 @@
 // Lookups that go through memory while edits go on: what they tell is what the region set gave at some moment since
 // their opening, and they end. There is nothing to run here: each function stands for a theorem, which its contract
 // names and its proof proves. The definitions are in specs/.
+#![tactic(auto)]
+
 ghost use Rattle.lookups.specs.Theorems.{SpelledWalk, Opens, EditCarries, OthersCarry, StepCarries, StepsEnd, EditKeepsFound, OthersKeepFound};
 ghost use Rattle.lookups.specs.Throughout.{LookupsFollow};
 ghost use Rattle.runs.specs.Calls.{kind};

@@ -1,5 +1,7 @@
 // The invariant over the runs of a catalogue: the tree, the pool, the nodes that wait, the seats and the rows of the sessions. There is
 // nothing to run here: each function stands for a theorem, which its contract names. The definitions are in specs/.
+#![tactic(auto)]
+
 ghost use Rattle.runs.specs.Calls.{kind};
 ghost use Rattle.moments.specs.Theorems.{MadeInv, InvGives, EditKeeps, EditSteps, OpenKeeps, StepKeeps, CloseKeeps, CountsKeep, RefusedKeeps, CallsKeep, ClosingFrees, ThirteenOnlyWhileOpen, RowsTell, OpenSeated, RunsKeep, KeptWhole, BitsLose};
 

@@ -3,6 +3,7 @@
 use Rattle.std.specs.Prelude.{◌≡◌, ℕ, List, [], ◌∷◌}
 use Rattle.std.specs.Borrow.{RattleType}
 use mir.Syntax.{given}
+use Rattle.std.specs.declared.clone.Clone as clone
 use Rattle.keys.specs.declared.key.Key as key
 use Rattle.keys.specs.declared.order.Ordered as ordered
 use Rattle.store.specs.declared.node.Node.{Node}
@@ -14,9 +15,10 @@ use Rattle.packed.specs.Rooms.{byte_cells, bytes_after}
 use Rattle.packed.specs.contracts.packing.ByteStoreStore.TheImpl as of_bytes
 
 -- a byte store closes no node, and is fit exactly if its number of nodes is in range
-abbrev pub ByteStoreMeaning : (K F : RattleType) → key.Ghosts K.Denot F.Denot → ordered.Ghosts K.Denot F.Denot → Type 0
-ByteStoreMeaning K F k o = (s : ByteStore K.Denot) →
-    let store = of_bytes.ghosts K F k (given 0) o (given 0) in
+abbrev pub ByteStoreMeaning : (K F : RattleType) → key.Ghosts K.Denot F.Denot → ordered.Ghosts K.Denot F.Denot →
+    clone.Ghosts K.Denot → clone.Ghosts F.Denot → Type 0
+ByteStoreMeaning K F k o kc fc = (s : ByteStore K.Denot) →
+    let store = of_bytes.ghosts K F k (given 0) o (given 0) fc (given 0) kc (given 0) in
     (store.cells s ≡ byte_cells k s.bytes.now) × Iff (store.fit s) (InRange (count_answer (store.cells s)))
 
 -- a list of writes: each the number of a node, and what is written there

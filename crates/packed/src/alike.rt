@@ -14,9 +14,9 @@ pub fn write_both<K: Key>(
     records: &mut RecordStore<'_, K>,
     writes: &[(usize, Node<K>)],
 )
-    ensures bytes { bytes.new.bytes.now ≡ run (bytes_after K.Key) bytes.old.bytes.now writes.now }
+    ensures bytes { bytes.new.bytes.now ≡ run (bytes_after K.Key.own) bytes.old.bytes.now writes.now }
     ensures nodes { records.new.nodes.now ≡ run nodes_after records.old.nodes.now writes.now }
-    ensures agree { byte_cells K.Key bytes.old.bytes.now ≡ all_readable records.old.nodes.now → byte_cells K.Key bytes.new.bytes.now ≡ all_readable records.new.nodes.now }
+    ensures agree { byte_cells K.Key.own bytes.old.bytes.now ≡ all_readable records.old.nodes.now → byte_cells K.Key.own bytes.new.bytes.now ≡ all_readable records.new.nodes.now }
 {
     for change in writes {
         let _ = bytes.write(change.0, &change.1);

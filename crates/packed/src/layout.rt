@@ -51,8 +51,8 @@ fn read_u64(from: &[u8], at: usize) -> u64
 // The node of as many bytes as a node has; its bytes are these again.
 pub(crate) fn decode<K: Key>(from: &[u8]) -> Node<K>
     requires { length from.now ≡ node_width K.Key.wide }
-    ensures value { result ≡ node_of K.Key from.now }
-    ensures again { node_bytes K.Key result ≡ from.now }
+    ensures value { result ≡ node_of K.Key.own from.now }
+    ensures again { node_bytes K.Key.own result ≡ from.now }
 {
     let width = K::width();
     let low = K::read_body(&from[HEAD..HEAD + width]);
@@ -87,9 +87,9 @@ fn head(mark: u8, left: u16, right: u16, size: u16, rows: u64, waits: u32) -> [u
 // Writes the bytes of a node over as many; the node can be read back from them.
 pub(crate) fn encode<K: Key>(node: &Node<K>, out: &mut [u8])
     requires { length out.old ≡ node_width K.Key.wide }
-    ensures written { out.new ≡ node_bytes K.Key node.now }
-    ensures sized { length (node_bytes K.Key node.now) ≡ node_width K.Key.wide }
-    ensures back { node_of K.Key (node_bytes K.Key node.now) ≡ node.now }
+    ensures written { out.new ≡ node_bytes K.Key.own node.now }
+    ensures sized { length (node_bytes K.Key.own node.now) ≡ node_width K.Key.wide }
+    ensures back { node_of K.Key.own (node_bytes K.Key.own node.now) ≡ node.now }
 {
     let width = K::width();
     let bytes = head(
@@ -104,9 +104,9 @@ pub(crate) fn encode<K: Key>(node: &Node<K>, out: &mut [u8])
 
 // Writes the bytes of a node over `out`; none, and nothing written, if `out` is not as long as a node.
 pub fn pack<K: Key>(node: &Node<K>, out: &mut [u8]) -> Option<()>
-    ensures value { result ≡ pack_answer K.Key out.old }
-    ensures after { out.new ≡ packed_over K.Key node.now out.old }
-    ensures back { result ≡ Some tt → Packs K.Key node.now }
+    ensures value { result ≡ pack_answer K.Key.own out.old }
+    ensures after { out.new ≡ packed_over K.Key.own node.now out.old }
+    ensures back { result ≡ Some tt → Packs K.Key.own node.now }
 {
     if node_width::<K>()? != out.len() {
         return None;
@@ -117,8 +117,8 @@ pub fn pack<K: Key>(node: &Node<K>, out: &mut [u8]) -> Option<()>
 
 // The node that the bytes are of; none if they are not as many as a node has.
 pub fn unpack<K: Key>(from: &[u8]) -> Option<Node<K>>
-    ensures value { result ≡ unpacked K.Key from.now }
-    ensures again { (v : Node K) → result ≡ Some v → node_bytes K.Key v ≡ from.now }
+    ensures value { result ≡ unpacked K.Key.own from.now }
+    ensures again { (v : Node K) → result ≡ Some v → node_bytes K.Key.own v ≡ from.now }
 {
     if node_width::<K>()? != from.len() {
         return None;
@@ -129,7 +129,7 @@ pub fn unpack<K: Key>(from: &[u8]) -> Option<Node<K>>
 // Both ways: the node to bytes and back, and the bytes to a node and back. The node comes back, and the bytes are as they were;
 // none if the bytes are not as many as a node has.
 pub fn both_ways<K: Key>(node: &Node<K>, bytes: &mut [u8]) -> Option<Node<K>>
-    ensures value { result ≡ (if node_long K.Key bytes.old then Some node.now else None) }
+    ensures value { result ≡ (if node_long K.Key.own bytes.old then Some node.now else None) }
     ensures same { bytes.new ≡ bytes.old }
 {
     let held = unpack::<K>(bytes)?;

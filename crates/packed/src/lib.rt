@@ -1,4 +1,6 @@
 // Nodes as bytes: packing and unpacking, and the byte store.
+#![tactic(auto)]
+
 mod alike;
 mod layout;
 mod meanings;

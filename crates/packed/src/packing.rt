@@ -39,7 +39,7 @@ fn room_of<K: Key>(function: Function, n: usize, len: usize) -> Result<(usize, u
 }
 
 fn mark_at<K: Key>(bytes: &[u8], n: usize) -> Result<u8, StoreFault>
-    ensures { result ≡ mark_answer (byte_cells K.Key bytes.now) n }
+    ensures { result ≡ mark_answer (byte_cells K.Key.own bytes.now) n }
 {
     let (from, to) = room_of::<K>(Function::Mark, n, bytes.len())?;
     let node = &bytes[from..to];
@@ -47,17 +47,17 @@ fn mark_at<K: Key>(bytes: &[u8], n: usize) -> Result<u8, StoreFault>
 }
 
 fn read_at<K: Key>(bytes: &[u8], n: usize) -> Result<Node<K>, StoreFault>
-    ensures { result ≡ read_answer (byte_cells K.Key bytes.now) n }
+    ensures { result ≡ read_answer (byte_cells K.Key.own bytes.now) n }
 {
     let (from, to) = room_of::<K>(Function::Read, n, bytes.len())?;
     Ok(decode(&bytes[from..to]))
 }
 
 fn write_at<K: Key>(bytes: &mut [u8], n: usize, v: &Node<K>) -> Result<(), StoreFault>
-    ensures value { result ≡ write_answer (byte_cells K.Key bytes.old) n }
-    ensures after { Written (byte_cells K.Key bytes.old) n v.now (byte_cells K.Key bytes.new) }
-    ensures bytes { bytes.new ≡ bytes_after K.Key bytes.old n v.now }
-    ensures rest { left_over K.Key bytes.new ≡ left_over K.Key bytes.old }
+    ensures value { result ≡ write_answer (byte_cells K.Key.own bytes.old) n }
+    ensures after { Written (byte_cells K.Key.own bytes.old) n v.now (byte_cells K.Key.own bytes.new) }
+    ensures bytes { bytes.new ≡ bytes_after K.Key.own bytes.old n v.now }
+    ensures rest { left_over K.Key.own bytes.new ≡ left_over K.Key.own bytes.old }
 {
     let (from, to) = room_of::<K>(Function::Write, n, bytes.len())?;
     encode(v, &mut bytes[from..to]);
@@ -84,11 +84,11 @@ impl<'a, K> ByteStore<'a, K> {
 impl<'a, K: Key> Store for ByteStore<'a, K> {
     type Key = K;
 
-    ghost cells = { λ s. byte_cells K.Key s.bytes.now };
+    ghost cells = { λ s. byte_cells K.Key.own s.bytes.now };
 
-    ghost fit = { λ s. InRange (length (byte_nodes K.Key s.bytes.now)) };
+    ghost fit = { λ s. InRange (length (byte_nodes K.Key.own s.bytes.now)) };
 
-    ghost lawful = { λ s f. readable_fit (byte_nodes K.Key s.bytes.now) f };
+    ghost lawful = { λ s f. readable_fit (byte_nodes K.Key.own s.bytes.now) f };
 
     fn count(&self) -> usize {
         count_in::<K>(self.bytes)
@@ -104,11 +104,11 @@ impl<'a, K: Key> Store for ByteStore<'a, K> {
 
     // Besides what every store's write says: the bytes after it, and that those left over are as they were.
     fn write(&mut self, n: usize, v: &Node<K>) -> Result<(), StoreFault>
-        ensures value { result ≡ write_answer (byte_cells K.Key self.old.bytes.now) n }
-        ensures after { Written (byte_cells K.Key self.old.bytes.now) n v.now (byte_cells K.Key self.new.bytes.now) }
-        ensures keeps { InRange (length (byte_nodes K.Key self.old.bytes.now)) → InRange (length (byte_nodes K.Key self.new.bytes.now)) }
-        ensures bytes { self.new.bytes.now ≡ bytes_after K.Key self.old.bytes.now n v.now }
-        ensures rest { left_over K.Key self.new.bytes.now ≡ left_over K.Key self.old.bytes.now }
+        ensures value { result ≡ write_answer (byte_cells K.Key.own self.old.bytes.now) n }
+        ensures after { Written (byte_cells K.Key.own self.old.bytes.now) n v.now (byte_cells K.Key.own self.new.bytes.now) }
+        ensures keeps { InRange (length (byte_nodes K.Key.own self.old.bytes.now)) → InRange (length (byte_nodes K.Key.own self.new.bytes.now)) }
+        ensures bytes { self.new.bytes.now ≡ bytes_after K.Key.own self.old.bytes.now n v.now }
+        ensures rest { left_over K.Key.own self.new.bytes.now ≡ left_over K.Key.own self.old.bytes.now }
     {
         write_at(self.bytes, n, v)
     }

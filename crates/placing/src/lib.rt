@@ -1,5 +1,7 @@
 // What the writes of an edit leave in memory, as a tree. There is nothing to run here: each function stands for a
 // theorem, which its contract names and its proof proves. The definitions are in specs/.
+#![tactic(auto)]
+
 ghost use Rattle.placing.specs.Theorems.{WritesReadBack, PlacesSpell, CommitSpells, ResizeSpells, WaitingStays};
 
 // What stands in the cells after some writes.

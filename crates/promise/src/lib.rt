@@ -1,5 +1,7 @@
 // The promise over runs, for the making and the calls of a catalogue. There is nothing to run here: each function stands for a theorem,
 // which its contract names. The definitions are in specs/.
+#![tactic(auto)]
+
 ghost use Rattle.runs.specs.Calls.{kind};
 ghost use Rattle.promise.specs.Theorems.{Parts, MakingWell, CallsExact, Promised};
 ghost use Rattle.store.specs.Fits.{FitCells};
@@ -30,7 +32,7 @@ pub fn runs_keep_promise<K: Key>() -> u8
 
 // And over any store.
 pub fn stores_keep_promise<S: Store>() -> u8
-    ensures { Parts (kind Key-as-Ordered.fault Key-as-Ordered.order Key-as-Key.blank) → Promised (kind Key-as-Ordered.fault Key-as-Ordered.order Key-as-Key.blank) S.Store.cells S.Store.fit }
+    ensures { Parts (kind S.Key.fault S.Key.order S.Key.blank) → Promised (kind S.Key.fault S.Key.order S.Key.blank) S.Store.cells S.Store.fit }
 {
     0
 }

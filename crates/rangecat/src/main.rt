@@ -1,4 +1,6 @@
 // rangecat: makes a catalogue's logs and memory readable. `rangecat --help` says what it can do.
+#![tactic(auto)]
+
 mod command;
 
 use anyhow::anyhow;

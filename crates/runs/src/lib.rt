@@ -1,5 +1,7 @@
 // What is promised over every run of a catalogue: the calls, what follows from their history alone, the refusals,
 // what an accepted call does, and what holds at every moment. The definitions are in specs/.
+#![tactic(auto)]
+
 mod call;
 mod theorems;
 

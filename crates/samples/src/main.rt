@@ -1,4 +1,6 @@
 // Lists each sample log that an argument names, from the files in data/.
+#![tactic(auto)]
+
 use anyhow::anyhow;
 use std::{env, fs};
 

@@ -1,4 +1,6 @@
 // What an edit looks for before it works: the way down, with its path, and free nodes.
+#![tactic(auto)]
+
 mod free;
 mod path;
 mod search;

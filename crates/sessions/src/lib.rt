@@ -1,4 +1,6 @@
 // The sessions of a catalogue: 32 rows, a seat for each in the store, and the lookups that go down the tree one node at a time.
+#![tactic(auto)]
+
 mod fault;
 mod laws;
 mod lookup;

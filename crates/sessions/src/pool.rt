@@ -39,7 +39,7 @@ fn can_make(count: usize) -> bool
 // or more than 4,096 is left as it is.
 pub fn make<S: Store>(store: &mut S) -> Result<bool, StoreFault>
     ensures value { result ≡ Ok (can_make (length (S.Store.cells store.old))) }
-    ensures cells { Rewritten (making Key-as-Key.blank (length (S.Store.cells store.old))) (S.Store.cells store.old) (S.Store.cells store.new) }
+    ensures cells { Rewritten (making S.Key.blank (length (S.Store.cells store.old))) (S.Store.cells store.old) (S.Store.cells store.new) }
     ensures keeps { S.Store.fit store.old → S.Store.fit store.new }
 {
     let count = store.count();

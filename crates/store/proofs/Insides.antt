@@ -1,5 +1,5 @@
 -- What follows from a number that lies inside a store, or outside.
-use Rattle.std.proofs.Common.{◌≡◌, ℕ, ◌-◌, ◌<◌, ◌≤◌, Bool, true, false, cond, eqb, ltb, List, length, set, Ok, Err, Result, sym, refl, arith}
+use Rattle.std.proofs.Common.{◌≡◌, ℕ, ◌-◌, ◌<◌, ◌≤◌, Bool, true, false, cond, eqb, ltb, List, length, set, Ok, Err, Result, refl, arith}
 use Rattle.std.proofs.lemmas.Bool.{or_parts, eqb-false, ltb-false}
 use Rattle.store.specs.declared.fault.Function.{Function}
 use Rattle.store.specs.declared.fault.Cause.TheVariants.{Outside}

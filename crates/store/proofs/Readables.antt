@@ -1,5 +1,5 @@
 -- What the cells of a row of nodes answer, where none is closed: from the answer of `index_of` alone.
-use Rattle.std.proofs.Common.{◌≡◌, ℕ, ◌-◌, ◌<◌, true, false, List, length, get_or, set, Ok, Err, Result, sym, refl, ap, ◌∙◌, subst, inl}
+use Rattle.std.proofs.Common.{◌≡◌, ℕ, ◌-◌, ◌<◌, false, List, length, get_or, set, Ok, Err, Result, sym, ap, ◌∙◌, subst, inl}
 use lib.ListN.{length-map}
 use Rattle.std.proofs.lemmas.List.{get_or-map, map-set}
 use Rattle.store.specs.declared.node.Node.{Node}
@@ -7,7 +7,7 @@ use Rattle.store.specs.declared.fault.Function.{Function}
 use Rattle.store.specs.declared.fault.Function.TheVariants.{Mark, Read, Write}
 use Rattle.store.specs.declared.fault.StoreFault.{StoreFault}
 use Rattle.store.specs.Faults.{outside, inside_or}
-use Rattle.store.specs.Cells.{Cell, shut, readable, cell_at, mark_of, shown, mark_answer, read_answer, write_answer, count_answer, replaced, Written, all_readable, nodes_after}
+use Rattle.store.specs.Cells.{shut, readable, cell_at, mark_of, shown, mark_answer, read_answer, write_answer, count_answer, Written, all_readable, nodes_after}
 use Rattle.store.specs.Fits.{Iff, InRange}
 use Rattle.store.proofs.Insides.{count_is, below, answered, answered_is, refused, refused_so, mark_inside, read_inside, write_inside, replaced_inside, replaced_outside}
 

@@ -1,11 +1,10 @@
 -- What code over any store learns from an answer, and what is answered after a write.
-use Rattle.std.proofs.Common.{◌≡◌, ℕ, ◌-◌, Bool, true, false, cond, ◌≢◌, List, length, get_or, Ok, Err, Result, sym, refl, ap, ◌∙◌, subst, arith}
+use Rattle.std.proofs.Common.{◌≡◌, ℕ, ◌-◌, Bool, true, false, ◌≢◌, List, length, Ok, Err, Result, sym, refl, ap, ◌∙◌, arith}
 use Rattle.std.proofs.lemmas.List.{get_or-set_same}
 use Rattle.store.specs.declared.node.Node.{Node}
-use Rattle.store.specs.declared.fault.Function.{Function}
 use Rattle.store.specs.declared.fault.Function.TheVariants.{Mark, Read, Write}
 use Rattle.store.specs.declared.fault.StoreFault.{StoreFault}
-use Rattle.store.specs.Faults.{outside, inside_or}
+use Rattle.store.specs.Faults.{outside}
 use Rattle.store.specs.Cells.{Cell, shut, readable, cell_at, mark_of, shown, mark_answer, read_answer, write_answer, Written}
 use Rattle.store.specs.Fits.{ShutFree}
 use Rattle.store.proofs.Insides.{numbered, below, answered, answered_is, mark_inside, read_inside, write_inside}

@@ -1,4 +1,6 @@
 // Stores of nodes: one interface, the record store and the guard.
+#![tactic(auto)]
+
 mod fault;
 mod guard;
 mod interface;

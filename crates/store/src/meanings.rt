@@ -1,19 +1,21 @@
 // What the stores here mean and what it takes for them to be fit, as theorems. The numbers that these functions answer mean nothing.
 ghost use Rattle.store.specs.Meanings.{RecordStoreMeaning, GuardMeaning, ClosedAllFree};
 
+use crate::guard::Guard;
 use crate::interface::Store;
+use crate::record::RecordStore;
 use keys::Key;
 
 // A record store closes no node, and is fit exactly if it has from 160 to 4,096 nodes.
-pub fn record_store_meaning<K: Key>() -> u8
-    ensures { RecordStoreMeaning K.row K.Fault.row K.Key K.Ordered }
+pub fn record_store_meaning<'a, K: Key + 'a>() -> u8
+    ensures { RecordStoreMeaning ⟦<RecordStore<'a, K> as Store>⟧.cells ⟦<RecordStore<'a, K> as Store>⟧.fit }
 {
     0
 }
 
 // A guard closes what is closed below and what has mark 0, and is fit exactly if the store below is.
 pub fn guard_meaning<K: Key, S: Store<Key = K>>() -> u8
-    ensures { GuardMeaning K.row K.Fault.row K.Key K.Ordered S.row S.Store }
+    ensures { GuardMeaning ⟦<Guard<S> as Store>⟧.cells ⟦<Guard<S> as Store>⟧.fit S.Store.cells S.Store.fit }
 {
     0
 }

@@ -1,5 +1,7 @@
 // The promise over runs, put together: the invariant of the tree and the pool, and the walks of the lookups. There is nothing to run
 // here: the function stands for a theorem, which its contract names.
+#![tactic(auto)]
+
 ghost use Rattle.runs.specs.Calls.{kind};
 ghost use Rattle.throughout.specs.Promises.{ExactRunsKeep, LookupsReady};
 

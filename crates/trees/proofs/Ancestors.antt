@@ -1,7 +1,7 @@
 -- Nodes on a path that stay in the tree keep their order. The search for a key that a node's region holds ends at the node, and
 -- every search that visits the node comes there the same way: so what is above it on any path is on the path of its own low key.
 use Rattle.std.proofs.Common.{◌≡◌, ℕ, zero, suc, ◌+◌, ◌≤◌, Bool, true, false, cond, eqb, List, [], ◌∷◌, ◌++◌, sym, refl, ap, ◌∙◌, subst, inl, inr, append_assoc, arith, eq-eqb, eqb-true}
-use Rattle.trees.specs.Trees.{Side, left, right, Turn, to_left, here, to_right, towards, at_turn, Tree, leaf, node, beside, inorder, path}
+use Rattle.trees.specs.Trees.{Side, left, right, Turn, here, towards, at_turn, Tree, leaf, node, beside, inorder, path}
 use Rattle.trees.specs.Paths.{times, inside, On, In, Distinct, beyond, Has, KeepsPath, KeepsOrder, KeepsRegions}
 use Rattle.trees.proofs.Risings.{All, all_mid, PartsWays, Rising, rising_mid}
 use Rattle.trees.proofs.Numbers.{has_inside}

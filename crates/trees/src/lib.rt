@@ -2,6 +2,8 @@
 // stands for a theorem, which its contract names and its proof proves. The definitions are in specs/.
 //
 // K is any kind of keys with its order; R is any kind of regions, with a low and a high key each.
+#![tactic(auto)]
+
 ghost use Rattle.std.specs.Prelude.{ℕ};
 ghost use Rattle.trees.specs.Broken.{CopyingUpBreaks, ShorteningBreaks, RelinkingBreaks};
 ghost use Rattle.trees.specs.Regions.{ranges};

@@ -1,4 +1,6 @@
 // The copying walk of drop and split.
+#![tactic(auto)]
+
 mod walk;
 
 pub use walk::{Edge, merge, part};

@@ -12,30 +12,30 @@ place-requires g c =
     search rules
 
 pub hang-requires : goal.hang-requires
-hang-requires g c = joint_after (g.S.Store.cells c.args.store.now) _ _ c.args.joint.now c.in-ok-n.ensures.writes c.requires.joint
+hang-requires g c = joint_after (g.S.Store.cells c.args.store.now) _ _ c.args.joint.now c.in_ok-n.ensures.writes c.requires.joint
 
-pub let-go-requires : goal.let-go-requires
-let-go-requires g c =
+pub let_go-requires : goal.let_go-requires
+let_go-requires g c =
     let room = c.requires.room.1 in
-    let inside = gone_after (g.S.Store.cells c.place.new.store) (g.S.Store.cells c.hang.new.store) _ (gone_of c.args.draft.now) c.in-ok-hang.ensures.writes
-    (gone_after (g.S.Store.cells c.args.store.now) (g.S.Store.cells c.place.new.store) _ (gone_of c.args.draft.now) c.in-ok-n.ensures.writes c.requires.gone) in
+    let inside = gone_after (g.S.Store.cells c.place.new.store) (g.S.Store.cells c.hang.new.store) _ (gone_of c.args.draft.now) c.in_ok-hang.ensures.writes
+    (gone_after (g.S.Store.cells c.args.store.now) (g.S.Store.cells c.place.new.store) _ (gone_of c.args.draft.now) c.in_ok-n.ensures.writes c.requires.gone) in
     search rules
 
-pub returns-in-err-n : goal.returns-in-err-n
-returns-in-err-n g c = absurd c.in-err-n.ensures.value
+pub returns-in_err-n : goal.returns-in_err-n
+returns-in_err-n g c = absurd c.in_err-n.ensures.value
 
-pub returns-in-err-hang : goal.returns-in-err-hang
-returns-in-err-hang g c = absurd c.in-err-hang.ensures.value
+pub returns-in_err-hang : goal.returns-in_err-hang
+returns-in_err-hang g c = absurd c.in_err-hang.ensures.value
 
 pub returns : goal.returns
 returns g c =
-    let p = c.in-ok-n.ensures in
-    let h = c.in-ok-hang.ensures in
-    let l = c.let-go.ensures in
+    let p = c.in_ok-n.ensures in
+    let h = c.in_ok-hang.ensures in
+    let l = c.let_go.ensures in
     record {
       value = l.value;
-      writes = all_written (g.S.Store.cells c.args.store.now) (g.S.Store.cells c.place.new.store) (g.S.Store.cells c.hang.new.store) (g.S.Store.cells c.let-go.new.store)
-          c.args.joint.now (placed (tree_of c.args.draft.now c.args.top) (left_of c.args.found.now)) c.in-ok-n.n c.args.sessions (gone_of c.args.draft.now) p.value p.writes h.writes l.writes;
+      writes = all_written (g.S.Store.cells c.args.store.now) (g.S.Store.cells c.place.new.store) (g.S.Store.cells c.hang.new.store) (g.S.Store.cells c.let_go.new.store)
+          c.args.joint.now (placed (tree_of c.args.draft.now c.args.top) (left_of c.args.found.now)) c.in_ok-n.n c.args.sessions (gone_of c.args.draft.now) p.value p.writes h.writes l.writes;
       root = h.root ∙ ap (λ n. root_after c.args.joint.now n c.args.root.now) p.value;
       keeps = λ f. l.keeps (h.keeps (p.keeps f));
     }

@@ -2,8 +2,8 @@ use Rattle.std.proofs.Common.{arith}
 use Rattle.drafts.proofs.Arena.{fine_within, fine_below, stands_at}
 use Rattle.drafts.proofs.draft.entry.Goals as goal
 
-pub offset-bounds-draft-i : goal.offset-bounds-draft-i
-offset-bounds-draft-i g c = let h = fine_below c.args.draft.now.count c.args.draft.now.made c.args.i c.requires.link in omega arith
+pub offset_bounds-draft-i : goal.offset_bounds-draft-i
+offset_bounds-draft-i g c = let h = fine_below c.args.draft.now.count c.args.draft.now.made c.args.i c.requires.link in omega arith
 
 pub listed : goal.listed
 listed g c = fine_within c.args.draft.now.count c.args.draft.now.made c.args.i c.requires.link

@@ -9,15 +9,15 @@ returns-then-n-eq0 g c = record {
   good = good_none c.args.draft.now;
 }
 
-pub returns-in-err-node : goal.returns-in-err-node
-returns-in-err-node g c =
-    let p = err_from_is_err_and c.from-residual.result c.from-residual.ensures.1 in
-    let q = see_refused c.args.draft.now (g.S.Store.cells c.args.store.now) c.args.link c.in-Old.n _ _ _ c.in-Old.is c.if-n-eq0.false c.in-err-node.ensures p.1 p.2 in
+pub returns-in_err-node-in-Old : goal.returns-in_err-node-in-Old
+returns-in_err-node-in-Old g c =
+    let p = err_from_is_err_and c.from_residual.result c.from_residual.ensures.1 in
+    let q = see_refused c.args.draft.now (g.S.Store.cells c.args.store.now) c.args.link c.in-Old.n _ _ _ c.in-Old.is c.if-n-eq0.false c.in_err-node.ensures p.1 p.2 in
     record { value = q.0; good = q.1 }
 
-pub returns-in-ok-node : goal.returns-in-ok-node
-returns-in-ok-node g c = record {
-  value = see_old c.args.draft.now (g.S.Store.cells c.args.store.now) c.args.link c.in-Old.n c.in-ok-node.node c.in-Old.is c.if-n-eq0.false c.in-ok-node.ensures;
+pub returns-in_ok-node-in-Old : goal.returns-in_ok-node-in-Old
+returns-in_ok-node-in-Old g c = record {
+  value = see_old c.args.draft.now (g.S.Store.cells c.args.store.now) c.args.link c.in-Old.n c.in_ok-node.node c.in-Old.is c.if-n-eq0.false c.in_ok-node.ensures;
   good = good_stored c.args.draft.now _;
 }
 

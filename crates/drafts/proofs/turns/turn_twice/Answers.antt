@@ -3,8 +3,8 @@ use Rattle.drafts.proofs.Seeing.{good_stays}
 use Rattle.drafts.proofs.Turning.{twice_none, twice_some}
 use Rattle.drafts.proofs.turns.turn_twice.Goals as goal
 
-pub turn-once-requires : goal.turn-once-requires
-turn-once-requires g c =
+pub turn_once-requires : goal.turn_once-requires
+turn_once-requires g c =
     let t = c.in-None.ensures in
     let room0 = t.grew.few in
     let light = good_stays c.args.light.now t.grew c.requires.light in
@@ -24,10 +24,10 @@ raise-requires g c =
 
 pub returns-in-None : goal.returns-in-None
 returns-in-None g c =
-    twice_none _ _ _ _ c.args.draft.now c.take-apart.new.draft _ c.args.light.now c.args.inner.now c.args.outer.now _ c.requires.light c.requires.inner c.requires.outer
-    c.in-None.ensures c.turn-once.ensures
+    twice_none _ _ _ _ c.args.draft.now c.take_apart.new.draft _ c.args.light.now c.args.inner.now c.args.outer.now _ c.requires.light c.requires.inner c.requires.outer
+    c.in-None.ensures c.turn_once.ensures
 
 pub returns-in-Some : goal.returns-in-Some
 returns-in-Some g c =
-    twice_some _ _ _ _ c.args.draft.now c.take-apart.new.draft _ c.args.light.now c.args.inner.now c.args.outer.now c.in-Some.mid _ c.requires.light c.requires.outer
+    twice_some _ _ _ _ c.args.draft.now c.take_apart.new.draft _ c.args.light.now c.args.inner.now c.args.outer.now c.in-Some.mid _ c.requires.light c.requires.outer
     c.in-Some.ensures c.raise.ensures

@@ -21,7 +21,7 @@ loop-i-preserved g c =
     let inv = c.loop-i.invariant in
     let i = c.loop-i.i in
     let inside : c.loop-i.i < length (g.S.Store.cells c.args.store.now) = omega (arith, inv.3) in
-    let told = c.in-ok-dump-cell.ensures in (
+    let told = c.in_ok-dump_cell.ensures in (
       lines_more g.K.Printable.held cs i _ _ inside told.text ∙ inv.0,
       counted_more cs i _ _ inside told.marks ∙ inv.1,
       ap all_marked told.marks ∙ all_more (mark_of (cell_at cs (i + 1))) c.loop-i.totals ∙ omega (arith, inv.2),
@@ -32,4 +32,4 @@ pub returns : goal.returns
 returns g c =
     let inv = c.loop-i.invariant in
     at_end g.K.Printable.held (g.S.Store.cells c.args.store.now) c.loop-i.i c.count-count.result (string_bytes c.loop-i.out) _ c.loop-i.totals
-    (omega (arith, inv.3)) inv.3 inv.0 inv.1 c.in-ok-writeln.ensures.bytes
+    (omega (arith, inv.3)) inv.3 inv.0 inv.1 c.in_ok-writeln.ensures.bytes

@@ -10,74 +10,74 @@ use Rattle.edits.proofs.Rotating.{during_ok, during_err}
 use Rattle.edits.proofs.Settling.{ends_resting, ends_unread, ends_sized, ends_turned, ends_unturned}
 use Rattle.edits.proofs.pending.advance.Goals as goal
 
-pub returns-in-default : goal.returns-in-default
-returns-in-default g c = record { edits = ends_resting (g.S.Store.cells c.args.store.now) (held c.args.path.now) c.args.root.now c.args.sessions c.in-default.ensures; keeps = λ h. h }
+pub returns-in_default : goal.returns-in_default
+returns-in_default g c = record { edits = ends_resting (g.S.Store.cells c.args.store.now) (held c.args.path.now) c.args.root.now c.args.sessions c.in_default.ensures; keeps = λ h. h }
 
-pub weigh-up-requires : goal.weigh-up-requires
-weigh-up-requires g c =
+pub weigh_up-requires : goal.weigh_up-requires
+weigh_up-requires g c =
     let h : c.wipe.new.draft.count ≤ 96 = omega (arith, c.wipe.ensures.count) in
     search rules
 
-pub returns-in-err-w : goal.returns-in-err-w
-returns-in-err-w g c =
-    let p = err_from_is_err_and c.from-residual.result c.from-residual.ensures.1 in
-    let e = during_err Rotation c.weigh-up.result _ c.in-err-w.ensures in
+pub returns-in_err-w : goal.returns-in_err-w
+returns-in_err-w g c =
+    let p = err_from_is_err_and c.from_residual.result c.from_residual.ensures.1 in
+    let e = during_err Rotation c.weigh_up.result _ c.in_err-w.ensures in
     record {
       edits = ends_unread (g.S.Store.cells c.args.store.now) (held c.args.path.now) c.args.root.now c.args.sessions c.in-Some.n e.0 _ _ _ c.in-Some.ensures
-          (sym (ap (sized_in c.wipe.new.draft) e.1) ∙ c.weigh-up.ensures.value) p.1 p.2 e.2;
+          (sym (ap (sized_in c.wipe.new.draft) e.1) ∙ c.weigh_up.ensures.value) p.1 p.2 e.2;
       keeps = λ h. h;
     }
 
-pub returns-in-err-put-to : goal.returns-in-err-put-to
-returns-in-err-put-to g c =
-    let e = during_ok Rotation c.weigh-up.result c.in-ok-w.w c.in-ok-w.ensures in
-    let v = sym (ap (sized_in c.wipe.new.draft) e) ∙ c.weigh-up.ensures.value in
-    let p = during_err Rotation c.write.result _ c.in-err-put-to.ensures in
+pub returns-in_err-put_to : goal.returns-in_err-put_to
+returns-in_err-put_to g c =
+    let e = during_ok Rotation c.weigh_up.result c.in_ok-w.w c.in_ok-w.ensures in
+    let v = sym (ap (sized_in c.wipe.new.draft) e) ∙ c.weigh_up.ensures.value in
+    let p = during_err Rotation c.write.result _ c.in_err-put_to.ensures in
     let b = sized_bound (g.S.Store.cells c.args.store.now) c.in-Some.n _ v in
-    absurd (no_refusal (g.S.Store.cells c.args.store.now) c.in-ok-w.w.node.number p.0 b.node (sym p.1 ∙ c.write.ensures.value))
+    absurd (no_refusal (g.S.Store.cells c.args.store.now) c.in_ok-w.w.node.number p.0 b.node (sym p.1 ∙ c.write.ensures.value))
 
-pub returns-in-ok-put-to : goal.returns-in-ok-put-to
-returns-in-ok-put-to g c =
-    let e = during_ok Rotation c.weigh-up.result c.in-ok-w.w c.in-ok-w.ensures in
-    let v = sym (ap (sized_in c.wipe.new.draft) e) ∙ c.weigh-up.ensures.value in
+pub returns-in_ok-put_to : goal.returns-in_ok-put_to
+returns-in_ok-put_to g c =
+    let e = during_ok Rotation c.weigh_up.result c.in_ok-w.w c.in_ok-w.ensures in
+    let v = sym (ap (sized_in c.wipe.new.draft) e) ∙ c.weigh_up.ensures.value in
     record {
       edits = ends_sized (g.S.Store.cells c.args.store.now) (held c.args.path.now) c.args.root.now c.args.sessions (g.S.Store.cells c.write.new.self) c.in-Some.n c.weigh.result c.weigh-2.result c.len.result _ (held c.up-above.result)
-          c.in-Some.ensures v c.in-None.ensures (c.weigh.ensures.value ∙ sym (weight_seen c.wipe.new.draft c.in-ok-w.w.left)) (c.weigh-2.ensures.value ∙ sym (weight_seen c.wipe.new.draft c.in-ok-w.w.right)) c.up-above.ensures c.len.ensures.value
-          (writes_one (g.S.Store.cells c.args.store.now) (g.S.Store.cells c.write.new.self) c.in-ok-w.w.node.number c.in-ok-w.w.node.node c.write.ensures.after);
+          c.in-Some.ensures v c.in-None.ensures (c.weigh.ensures.value ∙ sym (weight_seen c.wipe.new.draft c.in_ok-w.w.left)) (c.weigh-2.ensures.value ∙ sym (weight_seen c.wipe.new.draft c.in_ok-w.w.right)) c.up-above.ensures c.len.ensures.value
+          (writes_one (g.S.Store.cells c.args.store.now) (g.S.Store.cells c.write.new.self) c.in_ok-w.w.node.number c.in_ok-w.w.node.node c.write.ensures.after);
       keeps = c.write.ensures.keeps;
     }
 
-pub turn-node-requires : goal.turn-node-requires
-turn-node-requires g c =
-    let e = during_ok Rotation c.weigh-up.result c.in-ok-w.w c.in-ok-w.ensures in
-    let v = sym (ap (sized_in c.wipe.new.draft) e) ∙ c.weigh-up.ensures.value in
-    let good = subst (good_in c.wipe.new.draft) e c.weigh-up.ensures.good in
+pub turn_node-requires : goal.turn_node-requires
+turn_node-requires g c =
+    let e = during_ok Rotation c.weigh_up.result c.in_ok-w.w c.in_ok-w.ensures in
+    let v = sym (ap (sized_in c.wipe.new.draft) e) ∙ c.weigh_up.ensures.value in
+    let good = subst (good_in c.wipe.new.draft) e c.weigh_up.ensures.good in
     let count = c.wipe.ensures.count in
     let out = c.wipe.ensures.out in
     let left = good.0 in
     let right = good.1 in
-    let from : (n : ℕ) × (sized_in c.wipe.new.draft (Ok c.in-ok-w.w) ≡ sized (g.S.Store.cells c.args.store.now) n) = (c.in-Some.n, v) in
+    let from : (n : ℕ) × (sized_in c.wipe.new.draft (Ok c.in_ok-w.w) ≡ sized (g.S.Store.cells c.args.store.now) n) = (c.in-Some.n, v) in
     (search rules, (count, (out, (left, (right, from)))))
 
-pub returns-in-err-turn-node : goal.returns-in-err-turn-node
-returns-in-err-turn-node g c =
-    let e = during_ok Rotation c.weigh-up.result c.in-ok-w.w c.in-ok-w.ensures in
-    let v = sym (ap (sized_in c.wipe.new.draft) e) ∙ c.weigh-up.ensures.value in
-    let p = err_from_is_err_and c.from-residual-in-err-turn-node.result c.from-residual-in-err-turn-node.ensures.1 in
-    let t = c.in-err-turn-node.ensures in
+pub returns-in_err-turn_node : goal.returns-in_err-turn_node
+returns-in_err-turn_node g c =
+    let e = during_ok Rotation c.weigh_up.result c.in_ok-w.w c.in_ok-w.ensures in
+    let v = sym (ap (sized_in c.wipe.new.draft) e) ∙ c.weigh_up.ensures.value in
+    let p = err_from_is_err_and c.from_residual-in_err-turn_node.result c.from_residual-in_err-turn_node.ensures.1 in
+    let t = c.in_err-turn_node.ensures in
     record {
-      edits = ends_unturned (g.S.Store.cells c.args.store.now) (held c.args.path.now) c.args.root.now c.args.sessions (g.S.Store.cells c.turn-node.new.store) c.in-Some.n c.weigh.result c.weigh-2.result _ _ (held c.up-above.result) c.in-Some-overweight.lean _ _ _
-          c.in-Some.ensures v c.in-Some-overweight.ensures (c.weigh.ensures.value ∙ sym (weight_seen c.wipe.new.draft c.in-ok-w.w.left)) (c.weigh-2.ensures.value ∙ sym (weight_seen c.wipe.new.draft c.in-ok-w.w.right)) c.up-above.ensures t.turns p.1 p.2;
+      edits = ends_unturned (g.S.Store.cells c.args.store.now) (held c.args.path.now) c.args.root.now c.args.sessions (g.S.Store.cells c.turn_node.new.store) c.in-Some.n c.weigh.result c.weigh-2.result _ _ (held c.up-above.result) c.in-Some-overweight.lean _ _ _
+          c.in-Some.ensures v c.in-Some-overweight.ensures (c.weigh.ensures.value ∙ sym (weight_seen c.wipe.new.draft c.in_ok-w.w.left)) (c.weigh-2.ensures.value ∙ sym (weight_seen c.wipe.new.draft c.in_ok-w.w.right)) c.up-above.ensures t.turns p.1 p.2;
       keeps = t.keeps;
     }
 
-pub returns-in-ok-turn-node : goal.returns-in-ok-turn-node
-returns-in-ok-turn-node g c =
-    let e = during_ok Rotation c.weigh-up.result c.in-ok-w.w c.in-ok-w.ensures in
-    let v = sym (ap (sized_in c.wipe.new.draft) e) ∙ c.weigh-up.ensures.value in
-    let t = c.in-ok-turn-node.ensures in
+pub returns-in_ok-turn_node : goal.returns-in_ok-turn_node
+returns-in_ok-turn_node g c =
+    let e = during_ok Rotation c.weigh_up.result c.in_ok-w.w c.in_ok-w.ensures in
+    let v = sym (ap (sized_in c.wipe.new.draft) e) ∙ c.weigh_up.ensures.value in
+    let t = c.in_ok-turn_node.ensures in
     record {
-      edits = ends_turned (g.S.Store.cells c.args.store.now) (held c.args.path.now) c.args.root.now c.args.sessions (g.S.Store.cells c.turn-node.new.store) c.in-Some.n c.weigh.result c.weigh-2.result c.len-in-Some-overweight.result _ _ (held c.up-above.result) c.in-Some-overweight.lean
-          c.in-Some.ensures v c.in-Some-overweight.ensures (c.weigh.ensures.value ∙ sym (weight_seen c.wipe.new.draft c.in-ok-w.w.left)) (c.weigh-2.ensures.value ∙ sym (weight_seen c.wipe.new.draft c.in-ok-w.w.right)) c.up-above.ensures c.len-in-Some-overweight.ensures.value t.turns;
+      edits = ends_turned (g.S.Store.cells c.args.store.now) (held c.args.path.now) c.args.root.now c.args.sessions (g.S.Store.cells c.turn_node.new.store) c.in-Some.n c.weigh.result c.weigh-2.result c.len-in-Some-overweight.result _ _ (held c.up-above.result) c.in-Some-overweight.lean
+          c.in-Some.ensures v c.in-Some-overweight.ensures (c.weigh.ensures.value ∙ sym (weight_seen c.wipe.new.draft c.in_ok-w.w.left)) (c.weigh-2.ensures.value ∙ sym (weight_seen c.wipe.new.draft c.in_ok-w.w.right)) c.up-above.ensures c.len-in-Some-overweight.ensures.value t.turns;
       keeps = t.keeps;
     }

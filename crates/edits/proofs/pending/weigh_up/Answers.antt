@@ -4,39 +4,39 @@ use Rattle.drafts.proofs.Seeing.{fine_old}
 use Rattle.edits.proofs.Advancing.{sized_done, sized_unread, sized_left, sized_right}
 use Rattle.edits.proofs.pending.weigh_up.Goals as goal
 
-pub returns-in-err-v : goal.returns-in-err-v
-returns-in-err-v g c =
-    let p = err_from_is_err_and c.from-residual.result c.from-residual.ensures.1 in
-    let q = sized_unread (g.S.Store.cells c.args.store.now) c.args.draft.now c.args.n _ _ _ c.in-err-v.ensures p.1 p.2 in
+pub returns-in_err-v : goal.returns-in_err-v
+returns-in_err-v g c =
+    let p = err_from_is_err_and c.from_residual.result c.from_residual.ensures.1 in
+    let q = sized_unread (g.S.Store.cells c.args.store.now) c.args.draft.now c.args.n _ _ _ c.in_err-v.ensures p.1 p.2 in
     record { value = q.0; good = q.1 }
 
 pub see-requires : goal.see-requires
 see-requires g c =
-    let link = fine_old c.args.draft.now c.in-ok-v.v.left in
+    let link = fine_old c.args.draft.now c.in_ok-v.v.left in
     search rules
 
-pub returns-in-err-left : goal.returns-in-err-left
-returns-in-err-left g c =
-    let p = err_from_is_err_and c.from-residual-in-err-left.result c.from-residual-in-err-left.ensures.1 in
-    let q = sized_left (g.S.Store.cells c.args.store.now) c.args.draft.now c.args.n c.in-ok-v.v _ _ _ c.in-ok-v.ensures c.in-err-left.ensures.value p.1 p.2 in
+pub returns-in_err-left : goal.returns-in_err-left
+returns-in_err-left g c =
+    let p = err_from_is_err_and c.from_residual-in_err-left.result c.from_residual-in_err-left.ensures.1 in
+    let q = sized_left (g.S.Store.cells c.args.store.now) c.args.draft.now c.args.n c.in_ok-v.v _ _ _ c.in_ok-v.ensures c.in_err-left.ensures.value p.1 p.2 in
     record { value = q.0; good = q.1 }
 
 pub see-requires-2 : goal.see-requires-2
 see-requires-2 g c =
-    let link = fine_old c.args.draft.now c.in-ok-v.v.right in
+    let link = fine_old c.args.draft.now c.in_ok-v.v.right in
     search rules
 
-pub returns-in-err-right : goal.returns-in-err-right
-returns-in-err-right g c =
-    let p = err_from_is_err_and c.from-residual-in-err-right.result c.from-residual-in-err-right.ensures.1 in
-    let q = sized_right (g.S.Store.cells c.args.store.now) c.args.draft.now c.args.n c.in-ok-v.v c.in-ok-left.left _ _ _ c.in-ok-v.ensures
-    c.in-ok-left.ensures.value c.in-err-right.ensures.value p.1 p.2 in
+pub returns-in_err-right : goal.returns-in_err-right
+returns-in_err-right g c =
+    let p = err_from_is_err_and c.from_residual-in_err-right.result c.from_residual-in_err-right.ensures.1 in
+    let q = sized_right (g.S.Store.cells c.args.store.now) c.args.draft.now c.args.n c.in_ok-v.v c.in_ok-left.left _ _ _ c.in_ok-v.ensures
+    c.in_ok-left.ensures.value c.in_err-right.ensures.value p.1 p.2 in
     record { value = q.0; good = q.1 }
 
 pub returns : goal.returns
 returns g c = record {
-  value = sized_done (g.S.Store.cells c.args.store.now) c.args.draft.now c.args.n c.in-ok-v.v c.resize.result c.in-ok-left.left c.in-ok-right.right
-      c.weigh.result c.weigh-2.result c.size-over-size.result c.in-ok-v.ensures c.in-ok-left.ensures.value c.in-ok-right.ensures.value
-      c.resize.ensures c.size-over-size.ensures c.weigh.ensures.value c.weigh-2.ensures.value;
-  good = (c.in-ok-left.ensures.good, c.in-ok-right.ensures.good);
+  value = sized_done (g.S.Store.cells c.args.store.now) c.args.draft.now c.args.n c.in_ok-v.v c.resize.result c.in_ok-left.left c.in_ok-right.right
+      c.weigh.result c.weigh-2.result c.size_over-size.result c.in_ok-v.ensures c.in_ok-left.ensures.value c.in_ok-right.ensures.value
+      c.resize.ensures c.size_over-size.ensures c.weigh.ensures.value c.weigh-2.ensures.value;
+  good = (c.in_ok-left.ensures.good, c.in_ok-right.ensures.good);
 }

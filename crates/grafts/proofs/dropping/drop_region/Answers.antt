@@ -11,22 +11,22 @@ use Rattle.grafts.proofs.Exits.{edits_refused, edits_end, drop_unheld, drop_crow
 use Rattle.grafts.proofs.Replacing.{graft_at, dropped, dropped_stopped, dropped_linkable}
 use Rattle.grafts.proofs.dropping.drop_region.Goals as goal
 
-pub returns-in-err-p : goal.returns-in-err-p
-returns-in-err-p g c =
+pub returns-in_err-p : goal.returns-in_err-p
+returns-in_err-p g c =
     let cs = g.S.Store.cells c.args.store.now in
-    let p = err_from_is_err_and c.from-residual.result c.from-residual.ensures.1 in
+    let p = err_from_is_err_and c.from_residual.result c.from_residual.ensures.1 in
     record {
-      edits = edits_refused cs (held c.args.path.now) c.args.root.now _ _ _ _ (drop_unheld cs (held c.args.path.now) c.args.root.now _ c.args.sessions c.args.key _ (holds_err _ _ _ c.in-err-p.ensures)) p.1 p.2;
+      edits = edits_refused cs (held c.args.path.now) c.args.root.now _ _ _ _ (drop_unheld cs (held c.args.path.now) c.args.root.now _ c.args.sessions c.args.key _ (holds_err _ _ _ c.in_err-p.ensures)) p.1 p.2;
       keeps = λ h. h;
     }
 
-pub returns-in-err-found : goal.returns-in-err-found
-returns-in-err-found g c =
+pub returns-in_err-found : goal.returns-in_err-found
+returns-in_err-found g c =
     let cs = g.S.Store.cells c.args.store.now in
-    let p = err_from_is_err_and c.from-residual-in-err-found.result c.from-residual-in-err-found.ensures.1 in
+    let p = err_from_is_err_and c.from_residual-in_err-found.result c.from_residual-in_err-found.ensures.1 in
     record {
       edits = edits_refused cs (held c.args.path.now) c.args.root.now _ _ _ _
-          (drop_crowded cs (held c.args.path.now) c.args.root.now _ c.args.sessions c.args.key _ _ (holds_ok _ _ _ c.in-ok-p.ensures) (c.in-err-found.ensures ∙ ap (free_for cs) c.wanted-want.ensures.value)) p.1 p.2;
+          (drop_crowded cs (held c.args.path.now) c.args.root.now _ c.args.sessions c.args.key _ _ (holds_ok _ _ _ c.in_ok-p.ensures) (c.in_err-found.ensures ∙ ap (free_for cs) c.wanted-want.ensures.value)) p.1 p.2;
       keeps = λ h. h;
     }
 
@@ -36,29 +36,29 @@ replace-requires g c =
     let out = c.wipe.ensures.out in
     search rules
 
-pub returns-in-err-top : goal.returns-in-err-top
-returns-in-err-top g c =
+pub returns-in_err-top : goal.returns-in_err-top
+returns-in_err-top g c =
     let cs = g.S.Store.cells c.args.store.now in
-    let p = err_from_is_err_and c.from-residual-in-err-top.result c.from-residual-in-err-top.ensures.1 in
-    let f = c.in-ok-found.ensures in
+    let p = err_from_is_err_and c.from_residual-in_err-top.result c.from_residual-in_err-top.ensures.1 in
+    let f = c.in_ok-found.ensures in
     record {
       edits = edits_refused cs (held c.args.path.now) c.args.root.now _ _ _ _
-          (drop_stopped cs (held c.args.path.now) c.args.root.now _ c.args.sessions c.args.key _ _ (holds_ok _ _ _ c.in-ok-p.ensures) (f.asked ∙ ap (free_for cs) c.wanted-want.ensures.value)
-          (dropped_stopped cs c.in-ok-p.p c.replace.new.draft c.replace.result _ c.replace.ensures.value c.in-err-top.ensures)) p.1 p.2;
+          (drop_stopped cs (held c.args.path.now) c.args.root.now _ c.args.sessions c.args.key _ _ (holds_ok _ _ _ c.in_ok-p.ensures) (f.asked ∙ ap (free_for cs) c.wanted-want.ensures.value)
+          (dropped_stopped cs c.in_ok-p.p c.replace.new.draft c.replace.result _ c.replace.ensures.value c.in_err-top.ensures)) p.1 p.2;
       keeps = λ h. h;
     }
 
 pub finish-requires : goal.finish-requires
 finish-requires g c =
     let cs = g.S.Store.cells c.args.store.now in
-    let f = c.in-ok-found.ensures in
-    let i = held_inside cs (held c.args.path.now) c.args.root.now _ c.args.key _ (holds_ok _ _ _ c.in-ok-p.ensures) in
-    let s = dropped_linkable cs c.in-ok-p.p c.replace.new.draft c.replace.result c.in-ok-top.top c.replace.ensures.value c.in-ok-top.ensures c.replace.ensures.fine i in
+    let f = c.in_ok-found.ensures in
+    let i = held_inside cs (held c.args.path.now) c.args.root.now _ c.args.key _ (holds_ok _ _ _ c.in_ok-p.ensures) in
+    let s = dropped_linkable cs c.in_ok-p.p c.replace.new.draft c.replace.result c.in_ok-top.top c.replace.ensures.value c.in_ok-top.ensures c.replace.ensures.fine i in
     let count = c.replace.ensures.few.0 in
     let out = c.replace.ensures.few.1 in
     let few = f.few in
     let link = s.link in
-    let many : news (tree_of c.replace.new.draft c.in-ok-top.top) ≤ length (left_of c.in-ok-found.found) = omega (arith, s.few, f.many, c.wanted-want.ensures.value) in
+    let many : news (tree_of c.replace.new.draft c.in_ok-top.top) ≤ length (left_of c.in_ok-found.found) = omega (arith, s.few, f.many, c.wanted-want.ensures.value) in
     let inside = chosen_inside cs _ f.chosen in
     let gone = s.gone in
     search rules
@@ -66,10 +66,10 @@ finish-requires g c =
 pub returns : goal.returns
 returns g c =
     let cs = g.S.Store.cells c.args.store.now in
-    let f = c.in-ok-found.ensures in
+    let f = c.in_ok-found.ensures in
     record {
-      edits = edits_end cs (held c.args.path.now) c.args.root.now _ _ _ _ _ (left_of c.in-ok-found.found) _ f.chosen c.finish.ensures.enough
-          (drop_done cs (held c.args.path.now) c.args.root.now _ c.args.sessions c.args.key _ _ (graft_at c.replace.new.draft c.in-ok-top.top) (holds_ok _ _ _ c.in-ok-p.ensures) (f.asked ∙ ap (free_for cs) c.wanted-want.ensures.value)
-          (dropped cs c.in-ok-p.p c.replace.new.draft c.replace.result c.in-ok-top.top c.replace.ensures.value c.in-ok-top.ensures)) c.finish.ensures.ends;
+      edits = edits_end cs (held c.args.path.now) c.args.root.now _ _ _ _ _ (left_of c.in_ok-found.found) _ f.chosen c.finish.ensures.enough
+          (drop_done cs (held c.args.path.now) c.args.root.now _ c.args.sessions c.args.key _ _ (graft_at c.replace.new.draft c.in_ok-top.top) (holds_ok _ _ _ c.in_ok-p.ensures) (f.asked ∙ ap (free_for cs) c.wanted-want.ensures.value)
+          (dropped cs c.in_ok-p.p c.replace.new.draft c.replace.result c.in_ok-top.top c.replace.ensures.value c.in_ok-top.ensures)) c.finish.ensures.ends;
       keeps = c.finish.ensures.keeps;
     }

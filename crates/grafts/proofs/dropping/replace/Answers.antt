@@ -4,11 +4,11 @@ use Rattle.drafts.proofs.Seeing.{fine_old}
 use Rattle.grafts.proofs.Replacing.{side_fine, left_empty, right_empty, both_stopped, both_merged}
 use Rattle.grafts.proofs.dropping.replace.Goals as goal
 
-pub returns-in-err-side : goal.returns-in-err-side
-returns-in-err-side g c =
-    let p = err_from_is_err_and c.from-residual.result c.from-residual.ensures.1 in
-    let m = c.in-err-side.ensures in
-    let r = both_stopped (g.S.Store.cells c.args.store.now) c.args.p.now c.in-Some-Some.field-0-0 c.in-Some-Some.field-0-1 c.merge.new.draft c.in-err-side.field-0.0 _ c.from-residual.result
+pub returns-in_err-side : goal.returns-in_err-side
+returns-in_err-side g c =
+    let p = err_from_is_err_and c.from_residual.result c.from_residual.ensures.1 in
+    let m = c.in_err-side.ensures in
+    let r = both_stopped (g.S.Store.cells c.args.store.now) c.args.p.now c.in-Some-Some.field-0-0 c.in-Some-Some.field-0-1 c.merge.new.draft c.in_err-side.field-0.0 _ c.from_residual.result
     c.in-Some-Some.ensures c.in-Some-Some.ensures' m.value p.1 p.2 in
     record { value = r.0; fine = r.1; few = m.few }
 
@@ -30,12 +30,12 @@ returns-in-Some-None g c =
       few = (omega arith, omega arith);
     }
 
-pub returns-in-ok-side : goal.returns-in-ok-side
-returns-in-ok-side g c =
-    let m = c.in-ok-side.ensures in
+pub returns-in_ok-side : goal.returns-in_ok-side
+returns-in_ok-side g c =
+    let m = c.in_ok-side.ensures in
     record {
-      value = both_merged (g.S.Store.cells c.args.store.now) c.args.p.now c.in-Some-Some.field-0-0 c.in-Some-Some.field-0-1 c.merge.new.draft c.in-ok-side.side c.link_to.result
+      value = both_merged (g.S.Store.cells c.args.store.now) c.args.p.now c.in-Some-Some.field-0-0 c.in-Some-Some.field-0-1 c.merge.new.draft c.in_ok-side.side c.link_to.result
           c.in-Some-Some.ensures c.in-Some-Some.ensures' m.value m.good c.link_to.ensures;
-      fine = side_fine c.merge.new.draft c.in-ok-side.side c.link_to.result m.good c.link_to.ensures;
+      fine = side_fine c.merge.new.draft c.in_ok-side.side c.link_to.result m.good c.link_to.ensures;
       few = m.few;
     }

@@ -6,19 +6,19 @@ use Rattle.search.specs.Paths.{held}
 use Rattle.grafts.proofs.Ending.{joint_inside, graft_enough, graft_stopped, graft_done}
 use Rattle.grafts.proofs.ends.finish.Goals as goal
 
-pub returns-in-err-joint : goal.returns-in-err-joint
-returns-in-err-joint g c =
-    let p = err_from_is_err_and c.from-residual.result c.from-residual.ensures.1 in
+pub returns-in_err-joint : goal.returns-in_err-joint
+returns-in_err-joint g c =
+    let p = err_from_is_err_and c.from_residual.result c.from_residual.ensures.1 in
     record {
       enough = graft_enough _ c.args.sought.now (g.S.Store.cells c.args.store.now) (held c.args.way.now) c.args.root.now c.args.sessions _ _ c.requires.many;
-      ends = graft_stopped _ c.args.sought.now (g.S.Store.cells c.args.store.now) (held c.args.way.now) c.args.root.now c.args.sessions _ _ (held c.args.path.now) c.joint_for.result _ _ _ c.joint_for.ensures c.in-err-joint.ensures p.1 p.2;
+      ends = graft_stopped _ c.args.sought.now (g.S.Store.cells c.args.store.now) (held c.args.way.now) c.args.root.now c.args.sessions _ _ (held c.args.path.now) c.joint_for.result _ _ _ c.joint_for.ensures c.in_err-joint.ensures p.1 p.2;
       keeps = λ h. h;
     }
 
 pub commit-requires : goal.commit-requires
 commit-requires g c =
-    let e = during_ok Copy c.joint_for.result c.in-ok-joint.joint c.in-ok-joint.ensures in
-    let joint = joint_inside _ c.args.sought.now (g.S.Store.cells c.args.store.now) (held c.args.way.now) c.in-ok-joint.joint (sym e ∙ c.joint_for.ensures) in
+    let e = during_ok Copy c.joint_for.result c.in_ok-joint.joint c.in_ok-joint.ensures in
+    let joint = joint_inside _ c.args.sought.now (g.S.Store.cells c.args.store.now) (held c.args.way.now) c.in_ok-joint.joint (sym e ∙ c.joint_for.ensures) in
     let room0 = c.requires.room.0 in
     let room1 = c.requires.room.1 in
     let room2 = c.requires.room.2 in
@@ -28,15 +28,15 @@ commit-requires g c =
     let gone = c.requires.gone in
     search rules
 
-pub returns-in-err-put-to : goal.returns-in-err-put-to
-returns-in-err-put-to g c =
-    let p = during_err Copy c.commit.result _ c.in-err-put-to.ensures in
+pub returns-in_err-put_to : goal.returns-in_err-put_to
+returns-in_err-put_to g c =
+    let p = during_err Copy c.commit.result _ c.in_err-put_to.ensures in
     absurd (MatchResult-at_err _ _ p.0 p.1 c.commit.ensures.value)
 
 pub returns : goal.returns
 returns g c = record {
   enough = graft_enough _ c.args.sought.now (g.S.Store.cells c.args.store.now) (held c.args.way.now) c.args.root.now c.args.sessions _ _ c.requires.many;
-  ends = graft_done _ c.args.sought.now (g.S.Store.cells c.args.store.now) (held c.args.way.now) c.args.root.now c.args.sessions _ _ (held c.args.path.now) _ (g.S.Store.cells c.commit.new.store) _ c.len.result c.joint_for.result c.in-ok-joint.joint
-      c.joint_for.ensures c.in-ok-joint.ensures refl c.len.ensures.value c.commit.ensures.root c.commit.ensures.writes;
+  ends = graft_done _ c.args.sought.now (g.S.Store.cells c.args.store.now) (held c.args.way.now) c.args.root.now c.args.sessions _ _ (held c.args.path.now) _ (g.S.Store.cells c.commit.new.store) _ c.len.result c.joint_for.result c.in_ok-joint.joint
+      c.joint_for.ensures c.in_ok-joint.ensures refl c.len.ensures.value c.commit.ensures.root c.commit.ensures.writes;
   keeps = c.commit.ensures.keeps;
 }

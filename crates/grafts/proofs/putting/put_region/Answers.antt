@@ -9,43 +9,43 @@ use Rattle.commits.proofs.Bounds.{chosen_inside}
 use Rattle.grafts.proofs.Exits.{begins_err, begins_ok, edits_refused, edits_end, put_begun, put_met, put_full, put_crowded, put_done, sprouted}
 use Rattle.grafts.proofs.putting.put_region.Goals as goal
 
-pub returns-in-err-end : goal.returns-in-err-end
-returns-in-err-end g c =
+pub returns-in_err-end : goal.returns-in_err-end
+returns-in_err-end g c =
     let cs = g.S.Store.cells c.args.store.now in
-    let p = err_from_is_err_and c.from-residual.result c.from-residual.ensures.1 in
+    let p = err_from_is_err_and c.from_residual.result c.from_residual.ensures.1 in
     record {
-      edits = edits_refused cs (held c.args.path.now) c.args.root.now _ _ _ _ (put_begun cs (held c.args.path.now) c.args.root.now _ c.args.sessions c.args.region _ (begins_err _ _ _ c.in-err-end.ensures)) p.1 p.2;
+      edits = edits_refused cs (held c.args.path.now) c.args.root.now _ _ _ _ (put_begun cs (held c.args.path.now) c.args.root.now _ c.args.sessions c.args.region _ (begins_err _ _ _ c.in_err-end.ensures)) p.1 p.2;
       keeps = λ h. h;
     }
 
-pub returns-in-err-meets-none : goal.returns-in-err-meets-none
-returns-in-err-meets-none g c =
+pub returns-in_err-meets_none : goal.returns-in_err-meets_none
+returns-in_err-meets_none g c =
     let cs = g.S.Store.cells c.args.store.now in
-    let p = err_from_is_err_and c.from-residual-in-err-meets-none.result c.from-residual-in-err-meets-none.ensures.1 in
+    let p = err_from_is_err_and c.from_residual-in_err-meets_none.result c.from_residual-in_err-meets_none.ensures.1 in
     record {
       edits = edits_refused cs (held c.args.path.now) c.args.root.now _ _ _ _
-          (put_met cs (held c.args.path.now) c.args.root.now _ c.args.sessions c.args.region _ _ (begins_ok _ _ _ c.in-ok-end.ensures) c.in-err-meets-none.ensures) p.1 p.2;
+          (put_met cs (held c.args.path.now) c.args.root.now _ c.args.sessions c.args.region _ _ (begins_ok _ _ _ c.in_ok-end.ensures) c.in_err-meets_none.ensures) p.1 p.2;
       keeps = λ h. h;
     }
 
-pub returns-in-err-has-room : goal.returns-in-err-has-room
-returns-in-err-has-room g c =
+pub returns-in_err-has_room : goal.returns-in_err-has_room
+returns-in_err-has_room g c =
     let cs = g.S.Store.cells c.args.store.now in
-    let p = err_from_is_err_and c.from-residual-in-err-has-room.result c.from-residual-in-err-has-room.ensures.1 in
+    let p = err_from_is_err_and c.from_residual-in_err-has_room.result c.from_residual-in_err-has_room.ensures.1 in
     record {
       edits = edits_refused cs (held c.args.path.now) c.args.root.now _ _ _ _
-          (put_full cs (held c.args.path.now) c.args.root.now _ c.args.sessions c.args.region _ _ (begins_ok _ _ _ c.in-ok-end.ensures) c.in-ok-meets-none.ensures c.in-err-has-room.ensures) p.1 p.2;
+          (put_full cs (held c.args.path.now) c.args.root.now _ c.args.sessions c.args.region _ _ (begins_ok _ _ _ c.in_ok-end.ensures) c.in_ok-meets_none.ensures c.in_err-has_room.ensures) p.1 p.2;
       keeps = λ h. h;
     }
 
-pub returns-in-err-found : goal.returns-in-err-found
-returns-in-err-found g c =
+pub returns-in_err-found : goal.returns-in_err-found
+returns-in_err-found g c =
     let cs = g.S.Store.cells c.args.store.now in
-    let p = err_from_is_err_and c.from-residual-in-err-found.result c.from-residual-in-err-found.ensures.1 in
+    let p = err_from_is_err_and c.from_residual-in_err-found.result c.from_residual-in_err-found.ensures.1 in
     record {
       edits = edits_refused cs (held c.args.path.now) c.args.root.now _ _ _ _
-          (put_crowded cs (held c.args.path.now) c.args.root.now _ c.args.sessions c.args.region _ _ (begins_ok _ _ _ c.in-ok-end.ensures) c.in-ok-meets-none.ensures c.in-ok-has-room.ensures
-          c.in-err-found.ensures) p.1 p.2;
+          (put_crowded cs (held c.args.path.now) c.args.root.now _ c.args.sessions c.args.region _ _ (begins_ok _ _ _ c.in_ok-end.ensures) c.in_ok-meets_none.ensures c.in_ok-has_room.ensures
+          c.in_err-found.ensures) p.1 p.2;
       keeps = λ h. h;
     }
 
@@ -57,14 +57,14 @@ join-requires g c =
 
 pub finish-requires : goal.finish-requires
 finish-requires g c =
-    let f = c.in-ok-found.ensures in
+    let f = c.in_ok-found.ensures in
     let w = c.wipe.ensures in
-    let s = sprouted (length (g.S.Store.cells c.args.store.now)) c.wipe.new.draft c.join.new.draft c.args.region c.join.result c.link-to-top.result w.count w.out w.gone c.join.ensures c.link-to-top.ensures in
+    let s = sprouted (length (g.S.Store.cells c.args.store.now)) c.wipe.new.draft c.join.new.draft c.args.region c.join.result c.link_to-top.result w.count w.out w.gone c.join.ensures c.link_to-top.ensures in
     let count = s.count in
     let out = s.out in
     let few = f.few in
     let link = s.link in
-    let many : news (tree_of c.join.new.draft c.link-to-top.result) ≤ length (left_of c.in-ok-found.found) = omega (arith, s.news_one, f.many) in
+    let many : news (tree_of c.join.new.draft c.link_to-top.result) ≤ length (left_of c.in_ok-found.found) = omega (arith, s.news_one, f.many) in
     let inside = chosen_inside (g.S.Store.cells c.args.store.now) _ f.chosen in
     let gone = s.gone in
     search rules
@@ -72,12 +72,12 @@ finish-requires g c =
 pub returns : goal.returns
 returns g c =
     let cs = g.S.Store.cells c.args.store.now in
-    let f = c.in-ok-found.ensures in
+    let f = c.in_ok-found.ensures in
     let w = c.wipe.ensures in
-    let s = sprouted (length cs) c.wipe.new.draft c.join.new.draft c.args.region c.join.result c.link-to-top.result w.count w.out w.gone c.join.ensures c.link-to-top.ensures in
+    let s = sprouted (length cs) c.wipe.new.draft c.join.new.draft c.args.region c.join.result c.link_to-top.result w.count w.out w.gone c.join.ensures c.link_to-top.ensures in
     record {
-      edits = edits_end cs (held c.args.path.now) c.args.root.now _ _ _ _ _ (left_of c.in-ok-found.found) _ f.chosen c.finish.ensures.enough
-          (put_done cs (held c.args.path.now) c.args.root.now _ c.args.sessions c.args.region _ _ (record { side = tree_of c.join.new.draft c.link-to-top.result; gone = gone_of c.join.new.draft }) (begins_ok _ _ _ c.in-ok-end.ensures) c.in-ok-meets-none.ensures c.in-ok-has-room.ensures
+      edits = edits_end cs (held c.args.path.now) c.args.root.now _ _ _ _ _ (left_of c.in_ok-found.found) _ f.chosen c.finish.ensures.enough
+          (put_done cs (held c.args.path.now) c.args.root.now _ c.args.sessions c.args.region _ _ (record { side = tree_of c.join.new.draft c.link_to-top.result; gone = gone_of c.join.new.draft }) (begins_ok _ _ _ c.in_ok-end.ensures) c.in_ok-meets_none.ensures c.in_ok-has_room.ensures
           f.asked s.side s.none) c.finish.ensures.ends;
       keeps = c.finish.ensures.keeps;
     }

@@ -11,44 +11,44 @@ use Rattle.grafts.proofs.Exits.{edits_refused, edits_end, split_unheld, split_lo
 use Rattle.grafts.proofs.Replacing.{graft_at, parts_as, divided, divided_at, parted_stopped, divided_linkable}
 use Rattle.grafts.proofs.splitting.split_region.Goals as goal
 
-pub returns-in-err-p : goal.returns-in-err-p
-returns-in-err-p g c =
+pub returns-in_err-p : goal.returns-in_err-p
+returns-in_err-p g c =
     let cs = g.S.Store.cells c.args.store.now in
-    let p = err_from_is_err_and c.from-residual.result c.from-residual.ensures.1 in
+    let p = err_from_is_err_and c.from_residual.result c.from_residual.ensures.1 in
     record {
-      edits = edits_refused cs (held c.args.path.now) c.args.root.now _ _ _ _ (split_unheld cs (held c.args.path.now) c.args.root.now _ _ c.args.sessions c.args.key c.args.lower c.args.upper _ (holds_err _ _ _ c.in-err-p.ensures)) p.1 p.2;
+      edits = edits_refused cs (held c.args.path.now) c.args.root.now _ _ _ _ (split_unheld cs (held c.args.path.now) c.args.root.now _ _ c.args.sessions c.args.key c.args.lower c.args.upper _ (holds_err _ _ _ c.in_err-p.ensures)) p.1 p.2;
       keeps = λ h. h;
     }
 
-pub returns-in-err-past-low : goal.returns-in-err-past-low
-returns-in-err-past-low g c =
+pub returns-in_err-past_low : goal.returns-in_err-past_low
+returns-in_err-past_low g c =
     let cs = g.S.Store.cells c.args.store.now in
-    let p = err_from_is_err_and c.from-residual-in-err-past-low.result c.from-residual-in-err-past-low.ensures.1 in
+    let p = err_from_is_err_and c.from_residual-in_err-past_low.result c.from_residual-in_err-past_low.ensures.1 in
     record {
       edits = edits_refused cs (held c.args.path.now) c.args.root.now _ _ _ _
-          (split_low cs (held c.args.path.now) c.args.root.now _ _ c.args.sessions c.args.key c.args.lower c.args.upper _ (holds_ok _ _ _ c.in-ok-p.ensures) _ c.in-err-past-low.ensures) p.1 p.2;
+          (split_low cs (held c.args.path.now) c.args.root.now _ _ c.args.sessions c.args.key c.args.lower c.args.upper _ (holds_ok _ _ _ c.in_ok-p.ensures) _ c.in_err-past_low.ensures) p.1 p.2;
       keeps = λ h. h;
     }
 
-pub returns-in-err-has-room : goal.returns-in-err-has-room
-returns-in-err-has-room g c =
+pub returns-in_err-has_room : goal.returns-in_err-has_room
+returns-in_err-has_room g c =
     let cs = g.S.Store.cells c.args.store.now in
-    let p = err_from_is_err_and c.from-residual-in-err-has-room.result c.from-residual-in-err-has-room.ensures.1 in
+    let p = err_from_is_err_and c.from_residual-in_err-has_room.result c.from_residual-in_err-has_room.ensures.1 in
     record {
       edits = edits_refused cs (held c.args.path.now) c.args.root.now _ _ _ _
-          (split_full cs (held c.args.path.now) c.args.root.now _ _ c.args.sessions c.args.key c.args.lower c.args.upper _ (holds_ok _ _ _ c.in-ok-p.ensures) _ c.in-ok-past-low.ensures
-          c.in-err-has-room.ensures) p.1 p.2;
+          (split_full cs (held c.args.path.now) c.args.root.now _ _ c.args.sessions c.args.key c.args.lower c.args.upper _ (holds_ok _ _ _ c.in_ok-p.ensures) _ c.in_ok-past_low.ensures
+          c.in_err-has_room.ensures) p.1 p.2;
       keeps = λ h. h;
     }
 
-pub returns-in-err-found : goal.returns-in-err-found
-returns-in-err-found g c =
+pub returns-in_err-found : goal.returns-in_err-found
+returns-in_err-found g c =
     let cs = g.S.Store.cells c.args.store.now in
-    let p = err_from_is_err_and c.from-residual-in-err-found.result c.from-residual-in-err-found.ensures.1 in
+    let p = err_from_is_err_and c.from_residual-in_err-found.result c.from_residual-in_err-found.ensures.1 in
     record {
       edits = edits_refused cs (held c.args.path.now) c.args.root.now _ _ _ _
-          (split_crowded cs (held c.args.path.now) c.args.root.now _ _ c.args.sessions c.args.key c.args.lower c.args.upper _ (holds_ok _ _ _ c.in-ok-p.ensures) _ c.in-ok-past-low.ensures
-          c.in-ok-has-room.ensures c.in-err-found.ensures) p.1 p.2;
+          (split_crowded cs (held c.args.path.now) c.args.root.now _ _ c.args.sessions c.args.key c.args.lower c.args.upper _ (holds_ok _ _ _ c.in_ok-p.ensures) _ c.in_ok-past_low.ensures
+          c.in_ok-has_room.ensures c.in_err-found.ensures) p.1 p.2;
       keeps = λ h. h;
     }
 
@@ -58,33 +58,33 @@ part-requires g c =
     let out = c.wipe.ensures.out in
     search rules
 
-pub returns-in-err-side : goal.returns-in-err-side
-returns-in-err-side g c =
+pub returns-in_err-side : goal.returns-in_err-side
+returns-in_err-side g c =
     let cs = g.S.Store.cells c.args.store.now in
-    let v = c.in-ok-p.p.node in
-    let told = parts_as cs c.in-ok-p.p _ _ _ (lower_of c.args.key c.args.lower v) (upper_of c.args.key c.args.upper v) c.part.ensures.value c.lower-part-below.ensures c.upper-part-above.ensures in
-    let p = err_from_is_err_and c.from-residual-in-err-side.result c.from-residual-in-err-side.ensures.1 in
-    let f = c.in-ok-found.ensures in
+    let v = c.in_ok-p.p.node in
+    let told = parts_as cs c.in_ok-p.p _ _ _ (lower_of c.args.key c.args.lower v) (upper_of c.args.key c.args.upper v) c.part.ensures.value c.lower_part-below.ensures c.upper_part-above.ensures in
+    let p = err_from_is_err_and c.from_residual-in_err-side.result c.from_residual-in_err-side.ensures.1 in
+    let f = c.in_ok-found.ensures in
     record {
       edits = edits_refused cs (held c.args.path.now) c.args.root.now _ _ _ _
-          (split_stopped cs (held c.args.path.now) c.args.root.now _ _ c.args.sessions c.args.key c.args.lower c.args.upper _ (holds_ok _ _ _ c.in-ok-p.ensures) _ c.in-ok-past-low.ensures
-          c.in-ok-has-room.ensures f.asked (parted_stopped cs c.in-ok-p.p _ _ c.part.new.draft c.part.result _ told c.in-err-side.ensures)) p.1 p.2;
+          (split_stopped cs (held c.args.path.now) c.args.root.now _ _ c.args.sessions c.args.key c.args.lower c.args.upper _ (holds_ok _ _ _ c.in_ok-p.ensures) _ c.in_ok-past_low.ensures
+          c.in_ok-has_room.ensures f.asked (parted_stopped cs c.in_ok-p.p _ _ c.part.new.draft c.part.result _ told c.in_err-side.ensures)) p.1 p.2;
       keeps = λ h. h;
     }
 
 pub finish-requires : goal.finish-requires
 finish-requires g c =
     let cs = g.S.Store.cells c.args.store.now in
-    let v = c.in-ok-p.p.node in
-    let told = parts_as cs c.in-ok-p.p _ _ _ (lower_of c.args.key c.args.lower v) (upper_of c.args.key c.args.upper v) c.part.ensures.value c.lower-part-below.ensures c.upper-part-above.ensures in
-    let f = c.in-ok-found.ensures in
-    let i = held_inside cs (held c.args.path.now) c.args.root.now _ c.args.key _ (holds_ok _ _ _ c.in-ok-p.ensures) in
-    let s = divided_linkable cs c.in-ok-p.p _ _ c.part.new.draft c.part.result c.in-ok-side.side told c.in-ok-side.ensures c.link-to-top.result c.link-to-top.ensures c.part.ensures.good i in
+    let v = c.in_ok-p.p.node in
+    let told = parts_as cs c.in_ok-p.p _ _ _ (lower_of c.args.key c.args.lower v) (upper_of c.args.key c.args.upper v) c.part.ensures.value c.lower_part-below.ensures c.upper_part-above.ensures in
+    let f = c.in_ok-found.ensures in
+    let i = held_inside cs (held c.args.path.now) c.args.root.now _ c.args.key _ (holds_ok _ _ _ c.in_ok-p.ensures) in
+    let s = divided_linkable cs c.in_ok-p.p _ _ c.part.new.draft c.part.result c.in_ok-side.side told c.in_ok-side.ensures c.link_to-top.result c.link_to-top.ensures c.part.ensures.good i in
     let count = c.part.ensures.few.0 in
     let out = c.part.ensures.few.1 in
     let few = f.few in
     let link = s.link in
-    let many : news (tree_of c.part.new.draft c.link-to-top.result) ≤ length (left_of c.in-ok-found.found) = omega (arith, s.few, f.many) in
+    let many : news (tree_of c.part.new.draft c.link_to-top.result) ≤ length (left_of c.in_ok-found.found) = omega (arith, s.few, f.many) in
     let inside = chosen_inside cs _ f.chosen in
     let gone = s.gone in
     search rules
@@ -92,14 +92,14 @@ finish-requires g c =
 pub returns : goal.returns
 returns g c =
     let cs = g.S.Store.cells c.args.store.now in
-    let v = c.in-ok-p.p.node in
-    let told = parts_as cs c.in-ok-p.p _ _ _ (lower_of c.args.key c.args.lower v) (upper_of c.args.key c.args.upper v) c.part.ensures.value c.lower-part-below.ensures c.upper-part-above.ensures in
-    let f = c.in-ok-found.ensures in
+    let v = c.in_ok-p.p.node in
+    let told = parts_as cs c.in_ok-p.p _ _ _ (lower_of c.args.key c.args.lower v) (upper_of c.args.key c.args.upper v) c.part.ensures.value c.lower_part-below.ensures c.upper_part-above.ensures in
+    let f = c.in_ok-found.ensures in
     record {
-      edits = edits_end cs (held c.args.path.now) c.args.root.now _ _ _ _ _ (left_of c.in-ok-found.found) _ f.chosen c.finish.ensures.enough
-          (split_done cs (held c.args.path.now) c.args.root.now _ _ c.args.sessions c.args.key c.args.lower c.args.upper _ (holds_ok _ _ _ c.in-ok-p.ensures) _ _ (graft_at c.part.new.draft c.link-to-top.result)
-          (divided_at cs c.in-ok-p.p _ _ c.part.new.draft c.part.result c.in-ok-side.side told c.in-ok-side.ensures c.link-to-top.result c.link-to-top.ensures c.part.ensures.good)
-          c.in-ok-past-low.ensures c.in-ok-has-room.ensures f.asked
-          (divided cs c.in-ok-p.p _ _ c.part.new.draft c.part.result c.in-ok-side.side told c.in-ok-side.ensures)) c.finish.ensures.ends;
+      edits = edits_end cs (held c.args.path.now) c.args.root.now _ _ _ _ _ (left_of c.in_ok-found.found) _ f.chosen c.finish.ensures.enough
+          (split_done cs (held c.args.path.now) c.args.root.now _ _ c.args.sessions c.args.key c.args.lower c.args.upper _ (holds_ok _ _ _ c.in_ok-p.ensures) _ _ (graft_at c.part.new.draft c.link_to-top.result)
+          (divided_at cs c.in_ok-p.p _ _ c.part.new.draft c.part.result c.in_ok-side.side told c.in_ok-side.ensures c.link_to-top.result c.link_to-top.ensures c.part.ensures.good)
+          c.in_ok-past_low.ensures c.in_ok-has_room.ensures f.asked
+          (divided cs c.in_ok-p.p _ _ c.part.new.draft c.part.result c.in_ok-side.side told c.in_ok-side.ensures)) c.finish.ensures.ends;
       keeps = c.finish.ensures.keeps;
     }

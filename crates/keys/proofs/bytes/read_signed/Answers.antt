@@ -6,9 +6,9 @@ use Rattle.keys.proofs.bytes.read_signed.Goals as goal
 
 pub returns : goal.returns
 returns c =
-    let f : SFits w64 c.from-be-bytes.result = search rules in
-    let n : c.from-be-bytes.result ≡ to_z w64 (number 8 0 c.copy-from-slice.new.self) =
-    c.from-be-bytes.ensures ∙ ap (to_z w64) (omega arith) in
-    let v : to_z w64 (of_z w64 c.from-be-bytes.result) ≡ signed_number c.args.from.now =
-    to_z-of_z w64 _ f ∙ number_read _ _ _ c.copy-from-slice.ensures.after n in
-    record { value = v; again = bytes_again _ c.args.from.now v c.requires (λ i. (c.type-inv.from i).fits) }
+    let f : SFits w64 c.from_be_bytes.result = search rules in
+    let n : c.from_be_bytes.result ≡ to_z w64 (number 8 0 c.copy_from_slice.new.self) =
+    c.from_be_bytes.ensures ∙ ap (to_z w64) (omega arith) in
+    let v : to_z w64 (of_z w64 c.from_be_bytes.result) ≡ signed_number c.args.from.now =
+    to_z-of_z w64 _ f ∙ number_read _ _ _ c.copy_from_slice.ensures.after n in
+    record { value = v; again = bytes_again _ c.args.from.now v c.requires (λ i. (c.type_inv.from i).fits) }

@@ -1,4 +1,4 @@
-use Rattle.std.proofs.Common.{◌∙◌, rules}
+use Rattle.std.proofs.Common.{rules}
 use Rattle.keys.specs.Bytes.{signed_bytes}
 use Rattle.keys.proofs.Bodies.{number_back}
 use Rattle.keys.proofs.bytes.write_signed.Goals as goal

@@ -1,5 +1,5 @@
-use Rattle.std.proofs.Common.{◌≡◌, sym, ◌∙◌, arith, rules}
-use Rattle.keys.specs.Lexes.{lex, lex_is, lex_below, lex_above, lex_more, lex_short, lex_long, lex_same}
+use Rattle.std.proofs.Common.{sym, ◌∙◌, arith}
+use Rattle.keys.specs.Lexes.{lex_is, lex_below, lex_above, lex_more, lex_short, lex_long, lex_same}
 use Rattle.keys.proofs.text.order_of_bytes.Goals as goal
 
 pub returns-then-a-i : goal.returns-then-a-i

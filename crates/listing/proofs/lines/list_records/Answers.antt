@@ -25,7 +25,7 @@ loop-record-preserved c =
     let sum : total c.add.new.self ≡ n + 1 = ap total c.add.ensures ∙ total_counted r c.loop-record.tally ∙ ap (λ k. k + 1) inv.3 in
     let call : c.of-call.result ≡ call_of keys log r = c.of-call.ensures ∙ ap (λ k. call_of k log r) (c.key_kind.ensures ∙ same_keys) in
     let written : string_bytes c.writeln.new.self ≡ string_bytes c.loop-record.out ++ record_line keys log (n + 1) r =
-    c.in-ok-writeln.ensures.bytes ∙ ap (λ k. string_bytes c.loop-record.out ++ (decimal (n + 1) ++ (codes " " ++ (call_shown k ++ newline)))) call in
+    c.in_ok-writeln-in-Ok-Some.ensures.bytes ∙ ap (λ k. string_bytes c.loop-record.out ++ (decimal (n + 1) ++ (codes " " ++ (call_shown k ++ newline)))) call in
     let more = one_more keys log n _ _ _ _ r _ _ answer c.add.ensures told.after written in
     (same_log, same_keys, omega arith, sum, more ∙ inv.4)
 

@@ -6,7 +6,7 @@ use Rattle.packed.proofs.alike.write_both.Goals as goal
 
 pub loop-change-preserved : goal.loop-change-preserved
 loop-change-preserved g c =
-    let k = g.row.K-Key in
+    let k = g.K.Key in
     let ws = c.args.writes.now in
     let i = c.loop-change.change-index in (
       run_on (bytes_after k) ws i c.loop-change.bytes.bytes.now _ c.write.new.self.bytes.now
@@ -23,7 +23,7 @@ returns g c =
     let ws = c.args.writes.now in
     let i = c.loop-change.change-index in
     record {
-      bytes = run_out (bytes_after g.row.K-Key) ws i _ _ c.loop-change-test.false c.loop-change.invariant.0;
+      bytes = run_out (bytes_after g.K.Key) ws i _ _ c.loop-change-test.false c.loop-change.invariant.0;
       nodes = run_out nodes_after ws i _ _ c.loop-change-test.false c.loop-change.invariant.1;
       agree = c.loop-change.invariant.2;
     }

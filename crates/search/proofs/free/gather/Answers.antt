@@ -14,7 +14,7 @@ loop-n-preserved g c =
       omega (arith, i.0, c.loop-n-test.true),
       omega (arith, i.2, e.count, c.if-found-want.true),
       e.sound i.3,
-      next_noted (g.S.Store.cells c.args.store.now) c.args.from c.loop-n.n c.in-ok-mark.mark _ _ _ i.0 i.4 c.in-ok-mark.ensures e.found,
+      next_noted (g.S.Store.cells c.args.store.now) c.args.from c.loop-n.n c.in_ok-mark.mark _ _ _ i.0 i.4 c.in_ok-mark.ensures e.found,
       e.used ∙ i.5,
     )
 
@@ -40,9 +40,9 @@ returns-else-found-want g c =
       used = i.5;
     }
 
-pub returns-in-err-mark : goal.returns-in-err-mark
-returns-in-err-mark g c =
+pub returns-in_err-mark : goal.returns-in_err-mark
+returns-in_err-mark g c =
     let i = c.loop-n.invariant in
     let h = c.loop-n-test.true in
     let p = c.requires.pool.1 (omega (arith, i.0)) in
-    absurd (marked (g.S.Store.cells c.args.store.now) c.loop-n.n _ (omega (arith, i.0, c.requires.pool.0)) (omega (arith, p)) c.in-err-mark.ensures)
+    absurd (marked (g.S.Store.cells c.args.store.now) c.loop-n.n _ (omega (arith, i.0, c.requires.pool.0)) (omega (arith, p)) c.in_err-mark.ensures)

@@ -4,11 +4,11 @@ use Rattle.sessions.proofs.Makes.{counted_next, counted_all, count_bound, counts
 use Rattle.sessions.proofs.Sweeping.{mark_taken, mark_told}
 use Rattle.sessions.proofs.pool.count_pool.Goals as goal
 
-pub returns-in-err-mark : goal.returns-in-err-mark
-returns-in-err-mark g c =
+pub returns-in_err-mark : goal.returns-in_err-mark
+returns-in_err-mark g c =
     let cs = g.S.Store.cells c.args.store.now in
     let h : c.loop-i.i < length cs = omega (arith, count_is cs) in
-    let z : ⊥ = mark_taken cs c.loop-i.i _ h c.in-err-mark.ensures in
+    let z : ⊥ = mark_taken cs c.loop-i.i _ h c.in_err-mark.ensures in
     elim z [ ]
 
 pub loop-i-preserved : goal.loop-i-preserved
@@ -16,7 +16,7 @@ loop-i-preserved g c =
     let cs = g.S.Store.cells c.args.store.now in
     let i = c.loop-i.i in
     let h : i < length cs = omega (arith, count_is cs) in
-    let m = mark_told cs i _ h c.in-ok-mark.ensures in
+    let m = mark_told cs i _ h c.in_ok-mark.ensures in
     let was = c.loop-i.invariant in
     let t = c.tally-counts.ensures in
     let live = ap (λ k. k.live) t in

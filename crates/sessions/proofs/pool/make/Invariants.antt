@@ -6,5 +6,5 @@ use Rattle.sessions.proofs.pool.make.Given as goal
 -- the first i nodes are written, and the store is fit if it was
 abbrev pub invariant-loop-i : goal.invariant-loop-i
 invariant-loop-i g l =
-    Rewritten (upto l.i (every_node g.Key.Key.blank)) (g.S.Store.cells l.initial.store) (g.S.Store.cells l.store)
+    Rewritten (upto l.i (every_node g.S.Key.Key.blank)) (g.S.Store.cells l.initial.store) (g.S.Store.cells l.store)
     × (g.S.Store.fit l.initial.store → g.S.Store.fit l.store)

@@ -11,8 +11,8 @@ returns-in-Err g c =
     let nodes = nodes_same c.args.nodes.now c.args.n c.in-Err.fault c.args.v.now h in
     search rules
 
-pub offset-bounds-nodes-i : goal.offset-bounds-nodes-i
-offset-bounds-nodes-i g c =
+pub offset_bounds-nodes-i : goal.offset_bounds-nodes-i
+offset_bounds-nodes-i g c =
     let h : c.in-Ok.i < length c.args.nodes.now = index_below c.args.nodes.now c.args.n Write c.in-Ok.i c.in-Ok.ensures in
     search rules
 

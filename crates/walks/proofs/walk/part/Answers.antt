@@ -5,28 +5,28 @@ use Rattle.walks.proofs.Stepping.{grew_left}
 use Rattle.walks.proofs.Walking.{part_stop, part_done, within}
 use Rattle.walks.proofs.walk.part.Goals as goal
 
-pub returns-in-err-right : goal.returns-in-err-right
-returns-in-err-right g c =
-    let p = err_from_is_err_and c.from-residual.result c.from-residual.ensures.1 in
+pub returns-in_err-right : goal.returns-in_err-right
+returns-in_err-right g c =
+    let p = err_from_is_err_and c.from_residual.result c.from_residual.ensures.1 in
     let e = c.leave.ensures in
-    let m = part_stop (g.S.Store.cells c.args.store.now) c.args.p.now c.args.lower c.args.upper c.args.draft.now c.leave.new.draft c.grow-by.new.draft c.in-err-right.field-0.0 p.0 c.from-residual.result _ c.requires.out
-    (record { gone = e.gone; grew = grew_left c.args.draft.now c.leave.new.draft e.out e.made e.count }) c.in-err-right.ensures (search rules) p.1 p.2 in
+    let m = part_stop (g.S.Store.cells c.args.store.now) c.args.p.now c.args.lower c.args.upper c.args.draft.now c.leave.new.draft c.grow_by.new.draft c.in_err-right.field-0.0 p.0 c.from_residual.result _ c.requires.out
+    (record { gone = e.gone; grew = grew_left c.args.draft.now c.leave.new.draft e.out e.made e.count }) c.in_err-right.ensures (search rules) p.1 p.2 in
     record { value = m.is; good = m.good; few = within c.requires.count c.requires.out m }
 
-pub top-over-requires : goal.top-over-requires
-top-over-requires g c =
-    let m = c.in-ok-right.ensures in
+pub top_over-requires : goal.top_over-requires
+top_over-requires g c =
+    let m = c.in_ok-right.ensures in
     let few = m.grew.few in
     let few_out = m.grew.few_out in
     let count = c.leave.ensures.count in
     let out = c.leave.ensures.out in
-    let left = fine_old c.grow-by.new.draft in
+    let left = fine_old c.grow_by.new.draft in
     let right = m.good in
     search rules
 
 pub returns : goal.returns
 returns g c =
     let e = c.leave.ensures in
-    let m = part_done (g.S.Store.cells c.args.store.now) c.args.p.now c.args.lower c.args.upper c.args.draft.now c.leave.new.draft c.grow-by.new.draft c.top-over.new.draft c.in-ok-right.right
-    c.top-over.result _ _ c.requires.out (record { gone = e.gone; grew = grew_left c.args.draft.now c.leave.new.draft e.out e.made e.count }) c.in-ok-right.ensures (search rules) c.top-over.ensures (search rules) in
+    let m = part_done (g.S.Store.cells c.args.store.now) c.args.p.now c.args.lower c.args.upper c.args.draft.now c.leave.new.draft c.grow_by.new.draft c.top_over.new.draft c.in_ok-right.right
+    c.top_over.result _ _ c.requires.out (record { gone = e.gone; grew = grew_left c.args.draft.now c.leave.new.draft e.out e.made e.count }) c.in_ok-right.ensures (search rules) c.top_over.ensures (search rules) in
     record { value = m.is; good = m.good; few = within c.requires.count c.requires.out m }

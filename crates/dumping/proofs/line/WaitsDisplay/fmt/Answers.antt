@@ -16,9 +16,9 @@ loop-session-preserved g c plain =
     let s = c.loop-session.session-counter in
     let so_far = c.loop-session.invariant plain in
     elim c.if-self-session-eq1.branch [
-      | then-self-session-eq1+in-ok-write w ↦
+      | then-self-session-eq1+in_ok-write w ↦
           has_written_to_eq took _ _ _ _ w.f-is (has_written_of_eq took _ _ _ _ (set_more n s w.if-self-session-eq1.true)
-          (has_written_append took _ _ _ _ _ so_far (w.in-ok-write.ensures.shows so_far.plain refl)))
+          (has_written_append took _ _ _ _ _ so_far (w.in_ok-write.ensures.writes so_far.plain refl)))
       | else-self-session-eq1 w ↦
           has_written_to_eq took _ _ _ _ w.f-is (has_written_of_eq took _ _ _ _ (clear_more n s w.if-self-session-eq1.false) so_far)
     ]

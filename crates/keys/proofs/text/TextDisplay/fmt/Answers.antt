@@ -12,4 +12,4 @@ returns-clause-writes g c plain ok =
     let most : c.min-len.result ≡ min t.len (length t.bytes) = omega (arith, c.min-len.ensures) in
     let some : 0 < length (text_bytes t) = omega (arith, length-take t.len t.bytes) in
     let e = ap (λ n. take n t.bytes) (omega arith) ∙ taken_all m t.len t.bytes most in
-    has_written_of_eq g.W.Write.write_str_gives _ _ _ _ (ap hex e ∙ shown_some (text_bytes t) some) (c.write-hex.ensures plain ok)
+    has_written_of_eq g.W.Write.write_str_gives _ _ _ _ (ap hex e ∙ shown_some (text_bytes t) some) (c.write_hex.ensures plain ok)

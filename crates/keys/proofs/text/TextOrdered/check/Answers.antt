@@ -1,4 +1,4 @@
-use Rattle.std.proofs.Common.{◌≡◌, ◌<◌, ◌≤◌, length, sym, ◌∙◌, arith, rules}
+use Rattle.std.proofs.Common.{◌≡◌, length, sym, ◌∙◌, arith, rules}
 use Rattle.keys.proofs.Strays.{zero_passed, stray_found, none_left, check_by}
 use Rattle.keys.proofs.text.TextOrdered.check.Goals as goal
 

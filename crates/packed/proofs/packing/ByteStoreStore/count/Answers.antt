@@ -9,4 +9,4 @@ use Rattle.packed.proofs.packing.ByteStoreStore.count.Goals as goal
 pub returns : goal.returns
 returns g c =
     let bs = c.args.self.now.bytes.now in
-    c.count-in.ensures ∙ sym (count_is (byte_cells g.row.K-Key bs) ∙ length-map (byte_nodes g.row.K-Key bs) readable ∙ count_nodes g.row.K-Key bs)
+    c.count_in.ensures ∙ sym (count_is (byte_cells g.K.Key bs) ∙ length-map (byte_nodes g.K.Key bs) readable ∙ count_nodes g.K.Key bs)

@@ -4,11 +4,11 @@ use Rattle.packed.proofs.packing.ByteStoreStore.write.Goals as goal
 
 pub returns : goal.returns
 returns g c =
-    let e = c.write-at.ensures in
+    let e = c.write_at.ensures in
     record {
       value = e.value;
       after = e.after;
-      keeps = in_range_kept (byte_nodes g.row.K-Key c.args.self.now.bytes.now) (byte_nodes g.row.K-Key c.write-at.new.bytes) c.args.n c.args.v.now e.after;
+      keeps = in_range_kept (byte_nodes g.K.Key c.args.self.now.bytes.now) (byte_nodes g.K.Key c.write_at.new.bytes) c.args.n c.args.v.now e.after;
       bytes = e.bytes;
       rest = e.rest;
     }

@@ -28,7 +28,7 @@ pub returns-in-Going-Step : goal.returns-in-Going-Step
 returns-in-Going-Step g c =
     let cs = g.S.Store.cells c.args.store.now in
     let row = c.args.self.now in
-    let met = met_at (way_of g.Key.Ordered.fault g.Key.Ordered.order) cs (seat_of c.args.session) (link_number row.place) in
+    let met = met_at (way_of g.S.Key.Ordered.fault g.S.Key.Ordered.order) cs (seat_of c.args.session) (link_number row.place) in
     record {
       does = acting _ _ cs _ _ _ _ _ _ _ cs c.in-Going-Step.is-0 c.in-Going-Step.is-1 (stepping cs row met _ _ c.go.ensures.answer c.go.ensures.after);
       keeps = λ f. f;

@@ -1,5 +1,4 @@
 use Rattle.std.proofs.Common.{sym, ◌∙◌}
-use Rattle.store.specs.Cells.{write_answer}
 use Rattle.store.proofs.Guardings.{write_guarded, written_guarded}
 use Rattle.store.proofs.guard.GuardStore.write.Goals as goal
 
