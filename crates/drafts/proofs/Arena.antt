@@ -1,13 +1,13 @@
 -- The entries of a draft: what one more entry leaves and makes.
-use Rattle.std.proofs.Common.{◌≡◌, ℕ, zero, suc, ◌+◌, ◌<◌, ◌≤◌, Bool, true, false, eqb, ◌≢◌, List, [], ◌∷◌, ◌++◌, length, get_or, set, Some, None, Option, sym, refl, ap, ◌∙◌, subst, add-one, arith}
+use Rattle.std.proofs.Common.{◌≡◌, ℕ, zero, suc, ◌+◌, ◌<◌, ◌≤◌, Bool, true, false, eqb, ◌≢◌, List, [], ◌∷◌, length, get_or, set, Some, None, Option, sym, refl, ap, ◌∙◌, subst, add-one, arith}
 use Rattle.std.proofs.lemmas.Option.{slice_get-get_or}
-use Rattle.std.proofs.lemmas.Bool.{eqb-true, eqb-false, eq-eqb, ne_eqb}
+use Rattle.std.proofs.lemmas.Bool.{eqb-true, eq-eqb, ne_eqb}
 use Rattle.std.specs.List.{slice_get}
 use Rattle.drafts.specs.declared.link.Link.{Link}
 use Rattle.drafts.specs.declared.link.Link.TheVariants.{Old, New}
 use Rattle.drafts.specs.declared.link.Branch.{Branch}
 use Rattle.drafts.specs.declared.draft.Draft.{Draft}
-use Rattle.drafts.specs.Grown.{Grown, kept, built}
+use Rattle.drafts.specs.Grown.{Grown, built}
 use Rattle.drafts.specs.Drafts.{height, Stands, grown, fine, at_entry, at_fine, by_place, by_fine, Grew, tree_of, Fine}
 
 nth_other : {X : Type 0} (xs : List X) (j k : ℕ) (x : X) → k < j → slice_get (set xs j x) k ≡ slice_get xs k

@@ -1,5 +1,5 @@
 -- Sides of a node: what seeing one, taking one apart and joining two come to.
-use Rattle.std.proofs.Common.{◌≡◌, ℕ, ◌+◌, ◌-◌, ◌<◌, ◌≤◌, min, Bool, true, false, cond, eqb, List, [], ◌∷◌, ◌++◌, Some, None, Ok, Err, Option, Result, sym, refl, ap, ◌∙◌, subst, arith}
+use Rattle.std.proofs.Common.{◌≡◌, ℕ, ◌+◌, ◌≤◌, Bool, false, cond, eqb, List, [], ◌∷◌, ◌++◌, Some, None, Ok, Err, Result, sym, refl, ap, ◌∙◌, subst, arith}
 use Rattle.store.specs.Nodes.{region_of}
 use Rattle.std.proofs.lemmas.Bool.{eq-eqb, ne_eqb}
 use Rattle.store.specs.declared.node.Node.{Node}
@@ -15,8 +15,8 @@ use Rattle.drafts.specs.declared.link.Numbered.{Numbered}
 use Rattle.drafts.specs.declared.link.Side.{Side}
 use Rattle.drafts.specs.declared.link.Side.TheVariants.{Empty, Stored, Drafted}
 use Rattle.drafts.specs.declared.draft.Draft.{Draft}
-use Rattle.drafts.specs.Grown.{Grown, kept, built, Seen, nothing, stored, fresh, Parts, tree, weight, opened, without, seen, node_seen, joined, joined_by, size_over}
-use Rattle.drafts.specs.Drafts.{grown, fine, tree_of, Fine, gone_of, Grew, Stands, Good, seen_of, link_of, side_weight, parts_of, seen_told, good_told, Joins, Takes}
+use Rattle.drafts.specs.Grown.{Grown, built, Seen, fresh, tree, weight, opened, without, seen, node_seen, joined, joined_by, size_over}
+use Rattle.drafts.specs.Drafts.{grown, fine, tree_of, Fine, gone_of, Grew, Stands, Good, seen_of, link_of, side_weight, seen_told, good_told, Joins, Takes}
 
 by_false : {T : Type 0} (b : Bool) (x y : T) → b ≡ false → cond b x y ≡ y
 by_false b x y e = rw e

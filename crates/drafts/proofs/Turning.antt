@@ -1,5 +1,5 @@
 -- One step after another: how what the draft came to follows what the definitions say.
-use Rattle.std.proofs.Common.{◌≡◌, ℕ, ◌+◌, ◌*◌, ◌<◌, ◌≤◌, Bool, true, false, cond, ltb, List, Some, None, Ok, Err, Option, Result, sym, refl, ap, ◌∙◌, subst, arith}
+use Rattle.std.proofs.Common.{◌≡◌, ℕ, ◌+◌, ◌*◌, ◌<◌, ◌≤◌, Bool, true, false, ltb, List, Some, None, Ok, Err, Option, Result, sym, ap, ◌∙◌, arith}
 use Rattle.std.proofs.lemmas.Bool.{lt-ltb, le-ltb}
 use Rattle.store.specs.declared.fault.StoreFault.{StoreFault}
 use Rattle.store.specs.Cells.{Cell}
@@ -11,9 +11,9 @@ use Rattle.drafts.specs.declared.link.Branch.{Branch}
 use Rattle.drafts.specs.declared.link.Numbered.{Numbered}
 use Rattle.drafts.specs.declared.link.Side.{Side}
 use Rattle.drafts.specs.declared.draft.Draft.{Draft}
-use Rattle.drafts.specs.Grown.{Grown, Seen, Parts, Built, bind, near, far, seen, weight, without, opened, joined, joined_by, single, lifted, raised, double, double_by, turned, turned_by, turned_of, turned_over, heavy_side, rotated, balanced, balanced_by}
-use Rattle.drafts.specs.Drafts.{tree_of, Fine, gone_of, Grew, Good, seen_of, side_weight, parts_of, near_link, far_link, Makes, Joins, Takes}
-use Rattle.drafts.proofs.Seeing.{grew_none, grew_wide, grew_on, seen_same, good_stays, weight_seen}
+use Rattle.drafts.specs.Grown.{Seen, Built, bind, near, far, seen, without, joined_by, single, lifted, raised, double, double_by, turned, turned_by, turned_of, turned_over, heavy_side, rotated, balanced, balanced_by}
+use Rattle.drafts.specs.Drafts.{tree_of, Fine, gone_of, Good, seen_of, side_weight, parts_of, near_link, far_link, Makes, Joins, Takes}
+use Rattle.drafts.proofs.Seeing.{grew_none, grew_wide, grew_on, seen_same, weight_seen}
 
 pub bind_at : {A B E : Type 0} (m : Result A E) (a : A) (k : A → Result B E) → Ok a ≡ m → k a ≡ bind m k
 bind_at m a k e = rw (← e)

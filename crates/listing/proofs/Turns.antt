@@ -1,5 +1,5 @@
 -- One turn of the listing, and how many records a log can have.
-use Rattle.std.proofs.Common.{◌≡◌, ℕ, zero, suc, ◌+◌, ◌≤◌, Bool, true, false, cond, ltb, List, [], ◌∷◌, ◌++◌, length, IfOk, Some, None, Ok, Err, Option, Result, sym, refl, ap, ◌∙◌, append_assoc, arith}
+use Rattle.std.proofs.Common.{◌≡◌, ℕ, zero, suc, ◌+◌, ◌≤◌, Bool, true, false, cond, ltb, List, [], ◌∷◌, ◌++◌, length, IfOk, Some, None, Ok, Option, Result, refl, ap, ◌∙◌, append_assoc, arith}
 use Rattle.std.proofs.lemmas.Result.{IfOk-weaker}
 use Rattle.journal.specs.declared.format.KeyKind.{KeyKind}
 use Rattle.journal.specs.declared.format.LogFault.{LogFault}
@@ -8,7 +8,7 @@ use Rattle.journal.specs.declared.format.Record.TheVariants.{Put, Drop, Split, A
 use Rattle.journal.specs.declared.format.RecordKind.{RecordKind}
 use Rattle.journal.specs.KeyKinds.{key_kind}
 use Rattle.journal.specs.RecordKinds.{record_kind, body_width}
-use Rattle.journal.specs.Readings.{Reading, ends, fails, reads, first_of, rest_of, records_left, reading, from_kind, Log, refused, holds, from_key_kind, log_reading}
+use Rattle.journal.specs.Readings.{Reading, ends, fails, reads, first_of, rest_of, records_left, reading, from_kind, holds, from_key_kind, log_reading}
 use Rattle.listing.specs.declared.tally.Tally.{Tally}
 use Rattle.listing.specs.Tallies.{total, counted}
 use Rattle.listing.specs.Listings.{all_lines, record_line, closing_line}

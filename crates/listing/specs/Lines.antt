@@ -1,5 +1,5 @@
 -- What is printed of a log.
-use Rattle.std.specs.Prelude.{ℕ, List, [], ◌∷◌, ◌++◌, Some, None, codes, decimal, Option}
+use Rattle.std.specs.Prelude.{ℕ, List, [], ◌++◌, Some, None, codes, decimal, Option}
 use Rattle.keys.specs.Wholes.{whole_shown}
 use Rattle.keys.specs.Decimals.{decimal_shown, decimal_fault_shown}
 use Rattle.keys.specs.Texts.{text_shown, text_fault_shown}

@@ -1,16 +1,14 @@
 -- Where the nodes of a row of bytes lie.
-use Rattle.std.proofs.Common.{◌≡◌, ℕ, ◌+◌, ◌-◌, ◌*◌, ◌/◌, ◌^◌, ◌<◌, ◌≤◌, Bool, true, false, cond, ltb, Some, None, Ok, Err, Option, Result, sym, refl, ap, ◌∙◌, subst, mul-le-mul_right, add-mul, one-mul, div-mul-le_self, arith}
+use Rattle.std.proofs.Common.{◌≡◌, ℕ, ◌+◌, ◌-◌, ◌*◌, ◌/◌, ◌^◌, ◌<◌, ◌≤◌, Bool, true, false, cond, ltb, Some, None, Ok, Err, sym, refl, ap, ◌∙◌, mul-le-mul_right, add-mul, one-mul, div-mul-le_self, arith}
 use native.Mathlib.Nat.{div-eq_of_lt}
-use Rattle.std.proofs.lemmas.Bool.{ltb-false, ltb-true}
+use Rattle.std.proofs.lemmas.Bool.{ltb-false}
 use Rattle.std.proofs.lemmas.Bool.Decides.{nat_tests}
 use Rattle.store.specs.declared.fault.Function.{Function}
 use Rattle.store.specs.declared.fault.Cause.TheVariants.{Outside}
-use Rattle.store.specs.declared.fault.StoreFault.{StoreFault}
 use Rattle.store.specs.Faults.{fault_at, outside, inside_or}
 use Rattle.store.proofs.Insides.{numbered, answered, answered_is}
 use Rattle.packed.specs.Layout.{addressable}
 use Rattle.packed.specs.Rooms.{room_answer}
-use Rattle.packed.proofs.Rounds.{by_some}
 
 by_none : (b : Bool) (m : ℕ) → None ≡ cond b (Some m) None → b ≡ false
 by_none true m h = let z : ◌≡◌ {A = ℕ} 0 1 = cc in let w : ⊥ = omega arith in elim w [ ]

@@ -1,5 +1,5 @@
 -- Packing and unpacking, one after the other.
-use Rattle.std.proofs.Common.{◌≡◌, ℕ, Bool, true, false, cond, List, Some, None, Option, sym, refl, ap, ◌∙◌, arith}
+use Rattle.std.proofs.Common.{◌≡◌, ℕ, Bool, true, false, cond, List, Some, None, refl, ap, ◌∙◌, arith}
 use Rattle.keys.specs.declared.key.Key as key
 use Rattle.store.specs.declared.node.Node.{Node}
 use Rattle.packed.specs.Layout.{node_bytes, node_of, node_long, unpacked, Packs, packed_over}

@@ -6,7 +6,7 @@ use Rattle.std.proofs.lemmas.Bool.{eqb-true}
 use Rattle.keys.specs.declared.key.Key as key
 use Rattle.store.specs.declared.node.Node.{Node}
 use Rattle.store.specs.Faults.{outside}
-use Rattle.store.specs.Cells.{Cell, readable, replaced, all_readable, nodes_after}
+use Rattle.store.specs.Cells.{readable, replaced, all_readable, nodes_after}
 use Rattle.packed.specs.Layout.{node_width, node_bytes, node_of, node_long, Packs}
 use Rattle.packed.specs.Rooms.{byte_nodes, byte_cells, bytes_after}
 use Rattle.packed.specs.Meanings.{Writes, AllPack, run}

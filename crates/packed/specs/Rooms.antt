@@ -5,7 +5,7 @@ use Rattle.store.specs.declared.node.Node.{Node}
 use Rattle.store.specs.declared.fault.Function.{Function}
 use Rattle.store.specs.declared.fault.StoreFault.{StoreFault}
 use Rattle.store.specs.Faults.{outside, inside_or}
-use Rattle.store.specs.Cells.{Cell, readable, all_readable}
+use Rattle.store.specs.Cells.{Cell, all_readable}
 use Rattle.packed.specs.Layout.{node_width, node_of, node_bytes}
 
 -- the first k nodes of a row, each of m bytes

@@ -1,5 +1,5 @@
 -- That the promise has teeth: the making meets it, it speaks of one tree and one refusal, and cheats do not meet it.
-use Rattle.std.specs.Prelude.{◌≡◌, ℕ, suc, ◌+◌, ◌<◌, ◌≤◌, true, false, ◌⊎◌, List, [], ◌∷◌, length, set, Some, None, Option, ◌≢◌, slice_set}
+use Rattle.std.specs.Prelude.{◌≡◌, ℕ, suc, ◌+◌, ◌<◌, ◌≤◌, true, false, ◌⊎◌, List, [], ◌∷◌, length, Some, None, Option, ◌≢◌, slice_set}
 use Rattle.keys.specs.declared.whole.Whole.{Whole}
 use Rattle.store.specs.declared.node.Node.{Node}
 use Rattle.store.specs.Cells.{readable, cell_at, all_shut}

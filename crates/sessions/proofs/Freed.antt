@@ -1,10 +1,10 @@
 -- After the making the whole pool is free.
-use Rattle.std.proofs.Common.{◌≡◌, ℕ, zero, suc, ◌+◌, ◌-◌, ◌<◌, ◌≤◌, true, false, cond, eqb, ◌⊎◌, List, [], ◌∷◌, length, get_or, drop, Some, None, sym, refl, ap, ◌∙◌, subst, inl, inr, suc-le-suc, zero-le, arith}
+use Rattle.std.proofs.Common.{◌≡◌, ℕ, suc, ◌+◌, ◌-◌, ◌<◌, true, false, cond, eqb, List, [], ◌∷◌, length, get_or, Some, sym, refl, ap, ◌∙◌, subst, inl, inr, suc-le-suc, zero-le, arith}
 use Rattle.std.proofs.lemmas.List.{get_or-drop, length-drop}
 use Rattle.std.proofs.lemmas.Bool.{lt-leb}
 use Rattle.store.specs.declared.node.Node.{Node}
 use Rattle.store.specs.Faults.{outside}
-use Rattle.store.specs.Cells.{Cell, shut, readable, cell_at, mark_of}
+use Rattle.store.specs.Cells.{Cell, shut, cell_at, mark_of}
 use Rattle.sessions.specs.Writings.{nothing_written, CellAfter, Rewritten}
 use Rattle.sessions.specs.Making.{can_make, made_mark, every_node, making, pool, marked}
 use Rattle.sessions.specs.Laws.{Made, MakingLaw}

@@ -1,16 +1,15 @@
 -- The laws of the sessions.
-use Rattle.std.proofs.Common.{◌≡◌, ℕ, ◌<◌, Bool, true, false, cond, ◌&&◌, eqb, ltb, ◌≢◌, ◌⊎◌, List, length, Some, None, Ok, Err, Option, sym, refl, ap, ◌∙◌, subst, inl, inr, arith}
+use Rattle.std.proofs.Common.{◌≡◌, ℕ, ◌<◌, Bool, true, false, cond, ◌&&◌, eqb, ltb, ◌≢◌, ◌⊎◌, List, length, Some, None, Ok, Option, sym, refl, ap, ◌∙◌, subst, inl, inr, arith}
 use Rattle.std.proofs.lemmas.Bool.{lt-ltb, ltb-true}
 use Rattle.keys.specs.declared.order.Order.{Order}
 use Rattle.keys.specs.declared.order.Order.TheVariants.{Below, Same, Above}
-use Rattle.keys.specs.Orders.{compared}
 use Rattle.store.specs.declared.node.Node.{Node}
 use Rattle.store.specs.Faults.{outside}
 use Rattle.store.specs.Cells.{Cell, shut, readable, cell_at}
 use Rattle.sessions.specs.Ways.{way_by, way_of}
 use Rattle.sessions.specs.Writings.{CellAfter, Rewritten}
 use Rattle.sessions.specs.Waiting.{bit, without_bit, waiting_for, waits_for, released, release}
-use Rattle.sessions.specs.Laws.{WaySays, WaysTell, Without, Releases, ReleaseLaw}
+use Rattle.sessions.specs.Laws.{WaySays, Without, ReleaseLaw}
 use Rattle.sessions.proofs.Bits.{bit_stays, bit_goes}
 
 -- THE WAY AT A NODE

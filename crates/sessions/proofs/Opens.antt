@@ -1,5 +1,5 @@
 -- The bits of the sessions with an open lookup, one session after another.
-use Rattle.std.proofs.Common.{◌≡◌, ℕ, suc, ◌+◌, ◌*◌, ◌^◌, ◌<◌, Bool, true, false, cond, List, sym, ap, ◌∙◌, add-one, arith, pow-add}
+use Rattle.std.proofs.Common.{◌≡◌, ℕ, ◌+◌, ◌*◌, ◌^◌, ◌<◌, Bool, true, false, cond, List, sym, ap, ◌∙◌, add-one, arith, pow-add}
 use Rattle.sessions.specs.declared.lookup.Row.{Row}
 use Rattle.sessions.specs.Lookups.{row_of, is_open, open_upto}
 

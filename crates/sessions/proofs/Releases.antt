@@ -1,5 +1,5 @@
 -- The two loops of close: the one that reads every waiting node, and the one that releases the session.
-use Rattle.std.proofs.Common.{◌≡◌, ℕ, zero, suc, ◌+◌, ◌-◌, ◌<◌, ◌≤◌, Bool, true, false, cond, ◌&&◌, eqb, ltb, List, [], ◌∷◌, length, get_or, drop, Some, None, Ok, Err, Option, Result, sym, refl, ap, ◌∙◌, subst, arith}
+use Rattle.std.proofs.Common.{◌≡◌, ℕ, zero, suc, ◌+◌, ◌-◌, ◌<◌, ◌≤◌, Bool, true, false, cond, ◌&&◌, eqb, List, [], ◌∷◌, length, get_or, drop, Some, None, Ok, Err, Option, Result, sym, refl, ap, ◌∙◌, subst, arith}
 use Rattle.std.proofs.lemmas.List.{drop_all, get_or-drop}
 use Rattle.std.proofs.lemmas.Bool.{lt-ltb, le-ltb}
 use Rattle.store.specs.declared.node.Node.{Node}
@@ -10,7 +10,7 @@ use Rattle.store.specs.Faults.{fault_at}
 use Rattle.store.specs.Cells.{Cell, shut, readable, cell_at, mark_of, shown, Written}
 use Rattle.store.proofs.Insides.{mark_inside, read_inside}
 use Rattle.sessions.specs.Writings.{Rewritten}
-use Rattle.sessions.specs.Waiting.{bit, without_bit, waiting_for, waits_for, released, release, waiting_marked, waiting_at, closed_at, first_closed, closed_waiting, all_read}
+use Rattle.sessions.specs.Waiting.{bit, without_bit, waiting_for, released, release, waiting_marked, waiting_at, closed_at, first_closed, closed_waiting, all_read}
 use Rattle.sessions.proofs.Sweeping.{within, next_cell, next_drop, upto, sweep_writes, sweep_passes, sweep_meets}
 
 module _ {K : Type 0} where

@@ -14,7 +14,7 @@ use Rattle.sessions.specs.declared.lookup.Call.TheVariants.{Step}
 use Rattle.sessions.specs.declared.lookup.Told.{Told}
 use Rattle.sessions.specs.declared.lookup.Told.TheVariants.{Found}
 use Rattle.store.specs.Nodes.{region_of, link_number}
-use Rattle.sessions.specs.Lookups.{Done, told, row_with, more, seat_of, met_link, met_by, met_seat, met_at, moved_by, found_again, told_again, done_by, row_done}
+use Rattle.sessions.specs.Lookups.{Done, told, row_with, more, seat_of, met_by, met_seat, met_at, moved_by, found_again, told_again, done_by, row_done}
 use Rattle.sessions.specs.Laws.{AnswersRepeat}
 
 link_by : (b : Bool) (l n : ℕ) → cond b None (Some l) ≡ Some n → n ≡ l

@@ -1,6 +1,5 @@
 -- The refusals of a session's calls.
 use Rattle.std.specs.Prelude.{ℕ}
-use Rattle.store.specs.declared.fault.StoreFault.{StoreFault}
 use Rattle.sessions.specs.declared.fault.SessionFault.{SessionFault}
 use Rattle.sessions.specs.declared.fault.SessionFault.TheVariants.{NoSession, HasLookup, NoLookup, Lookup}
 

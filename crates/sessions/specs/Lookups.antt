@@ -11,7 +11,6 @@ use Rattle.sessions.specs.declared.fault.SessionFault.TheVariants.{NoSession, Ha
 use Rattle.sessions.specs.declared.way.Way.{Way}
 use Rattle.sessions.specs.declared.way.Way.TheVariants.{Left, Here, Right}
 use Rattle.sessions.specs.declared.lookup.Row.{Row}
-use Rattle.store.specs.declared.node.Region.{Region}
 use Rattle.sessions.specs.declared.lookup.State.{State}
 use Rattle.sessions.specs.declared.lookup.State.TheVariants.{Closed, Going, Answered}
 use Rattle.sessions.specs.declared.lookup.Call.{Call}

@@ -1,5 +1,5 @@
 -- The making of a catalogue, and the counts of its pool: nodes 1 to 32 are the seats of sessions 0 to 31, the others are the pool.
-use Rattle.std.specs.Prelude.{ℕ, ◌+◌, Bool, cond, ◌&&◌, List, [], ◌∷◌, length, drop, Some, ◌==◌, nat_le}
+use Rattle.std.specs.Prelude.{ℕ, ◌+◌, Bool, cond, ◌&&◌, List, [], ◌∷◌, drop, Some, ◌==◌, nat_le}
 use Rattle.store.specs.Cells.{Cell, mark_of}
 use Rattle.sessions.specs.declared.pool.Counts.{Counts}
 use Rattle.store.specs.Nodes.{plain}

@@ -1,4 +1,4 @@
-use Rattle.std.proofs.Common.{◌≡◌, sym, refl, subst, rules}
+use Rattle.std.proofs.Common.{sym, refl, subst, rules}
 use Rattle.drafts.specs.Drafts.{Fine}
 use Rattle.drafts.proofs.Seeing.{joins_added, good_fine}
 use Rattle.drafts.proofs.sides.join.Goals as goal

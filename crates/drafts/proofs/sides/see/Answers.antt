@@ -1,4 +1,3 @@
-use Rattle.std.proofs.Common.{ap}
 use Rattle.std.proofs.lemmas.Result.{err_from_is_err_and}
 use Rattle.drafts.proofs.Seeing.{see_none, see_old, see_refused, see_new, good_none, good_stored}
 use Rattle.drafts.proofs.sides.see.Goals as goal
@@ -12,12 +11,12 @@ returns-then-n-eq0 g c = record {
 pub returns-in_err-node-in-Old : goal.returns-in_err-node-in-Old
 returns-in_err-node-in-Old g c =
     let p = err_from_is_err_and c.from_residual.result c.from_residual.ensures.1 in
-    let q = see_refused c.args.draft.now (g.S.Store.cells c.args.store.now) c.args.link c.in-Old.n _ _ _ c.in-Old.is c.if-n-eq0.false c.in_err-node.ensures p.1 p.2 in
+    let q = see_refused c.args.draft.now (g.S.Store.cells c.args.store.now) c.args.link c.in-Old.n _ _ _ c.in-Old.is c.if-n-eq0.false c.in_err-node-in-Old.ensures p.1 p.2 in
     record { value = q.0; good = q.1 }
 
 pub returns-in_ok-node-in-Old : goal.returns-in_ok-node-in-Old
 returns-in_ok-node-in-Old g c = record {
-  value = see_old c.args.draft.now (g.S.Store.cells c.args.store.now) c.args.link c.in-Old.n c.in_ok-node.node c.in-Old.is c.if-n-eq0.false c.in_ok-node.ensures;
+  value = see_old c.args.draft.now (g.S.Store.cells c.args.store.now) c.args.link c.in-Old.n c.in_ok-node-in-Old.node c.in-Old.is c.if-n-eq0.false c.in_ok-node-in-Old.ensures;
   good = good_stored c.args.draft.now _;
 }
 

@@ -1,4 +1,3 @@
-use Rattle.std.proofs.Common.{rules}
 use Rattle.journal.specs.Readers.{keys_of, left}
 use Rattle.listing.proofs.Turns.{few_records}
 use Rattle.listing.proofs.lines.list.Goals as goal

@@ -1,4 +1,4 @@
-use Rattle.std.proofs.Common.{◌≡◌, ◌+◌, ◌*◌, ◌^◌, ◌<◌, ◌++◌, length, sym, refl, ap, ◌∙◌, arith, rules}
+use Rattle.std.proofs.Common.{◌≡◌, ◌+◌, ◌*◌, ◌^◌, ◌<◌, length, sym, refl, ◌∙◌, arith, rules}
 use Rattle.packed.specs.Layout.{head_bytes}
 use Rattle.packed.proofs.Nodes.{three_writes, node_back, length_node}
 use Rattle.packed.proofs.layout.encode.Goals as goal
@@ -18,7 +18,7 @@ returns g c =
     let f = c.head-bytes.ensures.fits in
     record {
       written = rw (c.write_body.ensures.written, c.write_body-2.ensures.written, c.copy_from_slice.ensures.after, c.head-bytes.ensures.value)
-          (three_writes (head-bytes v.mark v.left v.right v.size v.rows v.waits) (k.body v.low) (k.body v.high) c.args.out.now w lout refl llo lhi);
+          (three_writes (head_bytes v.mark v.left v.right v.size v.rows v.waits) (k.body v.low) (k.body v.high) c.args.out.now w lout refl llo lhi);
       sized = length_node k v sl sh;
       back = node_back k v f.0 f.1 f.2 f.3 f.4 sl sh c.write_body.ensures.back c.write_body-2.ensures.back;
     }

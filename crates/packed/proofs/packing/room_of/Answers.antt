@@ -1,4 +1,4 @@
-use Rattle.std.proofs.Common.{◌≡◌, ◌+◌, ◌*◌, ◌^◌, ◌<◌, ◌≤◌, arith, rules}
+use Rattle.std.proofs.Common.{◌^◌, ◌<◌, arith, rules}
 use Rattle.packed.specs.Layout.{node_width}
 use Rattle.packed.proofs.Places.{room_none, room_is, room_ends, is_width}
 use Rattle.packed.proofs.packing.room_of.Goals as goal

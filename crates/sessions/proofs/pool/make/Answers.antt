@@ -1,4 +1,4 @@
-use Rattle.std.proofs.Common.{◌≡◌, ◌+◌, ◌<◌, ◌≤◌, true, false, length, Some, Ok, sym, refl, ap, ◌∙◌, subst, arith}
+use Rattle.std.proofs.Common.{◌≡◌, ◌+◌, ◌<◌, ◌≤◌, true, false, length, Some, Ok, sym, ap, ◌∙◌, arith}
 use Rattle.store.proofs.Insides.{count_is}
 use Rattle.store.specs.Nodes.{plain}
 use Rattle.sessions.specs.Making.{can_make, every_node, made_mark}

@@ -1,6 +1,6 @@
-use Rattle.std.proofs.Common.{◌≡◌, ◌<◌, ◌≤◌, true, false, length, Ok, sym, refl, ap, ◌∙◌, arith}
+use Rattle.std.proofs.Common.{◌<◌, ◌≤◌, length, Ok, sym, refl, ap, ◌∙◌, arith}
 use Rattle.store.proofs.Insides.{count_is}
-use Rattle.sessions.specs.Waiting.{bit, waiting_for, without_bit, release}
+use Rattle.sessions.specs.Waiting.{waiting_for, release}
 use Rattle.sessions.proofs.Sweeping.{sweep_starts, sweep_ends, write_taken}
 use Rattle.sessions.proofs.Releases.{release_starts, release_reads, release_passes, release_leaves, release_writes}
 use Rattle.sessions.proofs.waiting.release.Goals as goal
