@@ -1,13 +1,11 @@
 -- The empty text is below every other.
-use Rattle.std.proofs.Common.{◌≡◌, ℕ, zero, suc, ◌+◌, ◌<◌, ◌≤◌, Bool, true, false, cond, eqb, ltb, List, [], ◌∷◌, ◌++◌, length, take, drop, replicate, Some, None, Ok, Option, Result, sym, refl, ap, ◌∙◌, subst, arith}
+use Rattle.std.proofs.Common.{◌≡◌, ℕ, zero, suc, ◌+◌, ◌<◌, Bool, true, false, cond, eqb, List, [], ◌∷◌, length, take, replicate, Some, None, Ok, Option, refl, ap, ◌∙◌, subst, arith}
 use Rattle.std.proofs.lemmas.Bool.Decides.{nat_tests}
-use Rattle.keys.specs.declared.order.Order.{Order}
 use Rattle.keys.specs.declared.order.Order.TheVariants.{Below}
 use Rattle.keys.specs.declared.text.Text.{Text}
 use Rattle.keys.specs.declared.text.TextFault.{TextFault}
 use Rattle.keys.specs.declared.text.TextFault.TheVariants.{Stray}
-use Rattle.keys.specs.Orders.{checked, first_fault, compared, orderℕ}
-use Rattle.keys.specs.Texts.{text_fault, length_fault, stray_fault, order_bytes, text_filler, text_bytes}
+use Rattle.keys.specs.Texts.{text_fault, stray_fault, order_bytes, text_filler}
 use Rattle.examples.specs.Worked.{compare_texts}
 
 -- a list without a byte other than zero is all zeros

@@ -3,7 +3,7 @@ use Rattle.std.specs.Prelude.{ℕ, suc, List, [], ◌∷◌}
 use Rattle.trees.specs.Units.{units}
 use Rattle.trees.specs.Trees.{Tree, leaf, node, Even}
 use Rattle.trees.specs.Rotations.{Label, kept, new}
-use Rattle.trees.specs.Edits.{Frame, place, Edit, Put, Drop, advanced, edited}
+use Rattle.trees.specs.Edits.{Frame, place, Edit, Put, advanced, edited}
 
 -- the numbers of nodes are of no account here: each new node gets the number 0
 abbrev pub numbered : Tree Label ℕ → Tree ℕ ℕ

@@ -1,12 +1,12 @@
 -- The search for free nodes.
 use Rattle.std.proofs.Common.{◌≡◌, ℕ, zero, suc, ◌+◌, ◌-◌, ◌<◌, ◌≤◌, min, Bool, true, false, cond, eqb, ◌≢◌, ◌⊎◌, List, [], ◌∷◌, ◌++◌, length, get_or, take, drop, Ok, Err, Result, sym, refl, ap, ◌∙◌, subst, inl, inr, append_assoc, append-nil, add-zero, add_assoc, add-suc, add-one, arith, length-append, length-drop, length-take, drop-cons, get_or-take}
 use Rattle.search.specs.Firsts.{first, later}
-use Rattle.std.proofs.lemmas.Bool.{eqb-true, eq-eqb, ne_eqb, le-ltb, cases_lt}
+use Rattle.std.proofs.lemmas.Bool.{eqb-true, ne_eqb, le-ltb, cases_lt}
 use Rattle.store.specs.declared.fault.StoreFault.{StoreFault}
 use Rattle.store.specs.Cells.{Cell, mark_answer, mark_of, cell_at}
 use Rattle.store.specs.Faults.{outside}
 use Rattle.store.proofs.Insides.{mark_inside}
-use Rattle.search.specs.Frees.{Apart, if_free, frees, pool_end, free_count, FreeNode, Chosen, Gathers, Finds}
+use Rattle.search.specs.Frees.{Apart, if_free, frees, pool_end, free_count, Chosen, Gathers, Finds}
 
 -- the next of the numbers that are left
 pub some_left : (ns : List ℕ) (count used : ℕ) → 0 < length (drop used (take count ns)) → used < count

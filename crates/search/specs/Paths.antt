@@ -1,5 +1,5 @@
 -- The nodes that a path holds, from the root down.
-use Rattle.std.specs.Prelude.{ℕ, ◌-◌, List, [], ◌∷◌, length, take, Some, None, Option}
+use Rattle.std.specs.Prelude.{ℕ, ◌-◌, List, length, take, Option}
 use Rattle.std.specs.List.{slice_get}
 use Rattle.search.specs.declared.path.Path.{Path}
 

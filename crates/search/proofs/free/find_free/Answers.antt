@@ -1,4 +1,4 @@
-use Rattle.std.proofs.Common.{◌≡◌, ◌+◌, ◌<◌, min, length, refl, ap, ◌∙◌, arith}
+use Rattle.std.proofs.Common.{◌≡◌, ◌+◌, min, refl, ap, ◌∙◌, arith}
 use Rattle.store.proofs.Insides.{count_is}
 use Rattle.search.specs.Frees.{pool_end}
 use Rattle.search.proofs.Gathering.{found_all}

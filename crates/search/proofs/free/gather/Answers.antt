@@ -1,4 +1,4 @@
-use Rattle.std.proofs.Common.{◌<◌, ◌≤◌, length, refl, ◌∙◌, arith}
+use Rattle.std.proofs.Common.{refl, ◌∙◌, arith}
 use Rattle.search.proofs.Gathering.{none_yet, next_noted, gathered, marked}
 use Rattle.search.proofs.free.gather.Goals as goal
 

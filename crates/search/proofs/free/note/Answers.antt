@@ -1,6 +1,5 @@
-use Rattle.std.proofs.Common.{◌≡◌, ◌<◌, [], ◌∷◌, ◌++◌, length, take, set, sym, refl, ap, ◌∙◌, append-nil, arith}
+use Rattle.std.proofs.Common.{◌<◌, length, take, refl, ap, arith}
 use Rattle.std.proofs.lemmas.List.{take_more_set, length_push}
-use Rattle.std.proofs.lemmas.Bool.{eq-eqb, ne_eqb}
 use Rattle.search.proofs.Gathering.{noted, unnoted}
 use Rattle.search.proofs.free.note.Goals as goal
 

@@ -1,4 +1,4 @@
-use Rattle.std.proofs.Common.{sym, ◌∙◌}
+use Rattle.std.proofs.Common.{sym}
 use Rattle.search.proofs.Searching.{holder_left, holder_here, holder_right, overlap_left, overlap_here, overlap_right}
 use Rattle.search.proofs.search.side_at.Goals as goal
 
