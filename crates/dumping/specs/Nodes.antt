@@ -1,5 +1,5 @@
 -- A node as a line of text.
-use Rattle.std.specs.Prelude.{ℕ, zero, suc, ◌+◌, ◌/◌, ◌%◌, ◌^◌, cond, List, [], ◌∷◌, ◌++◌, codes, decimal, ◌==◌}
+use Rattle.std.specs.Prelude.{ℕ, zero, suc, ◌+◌, ◌/◌, ◌%◌, ◌^◌, cond, List, [], ◌++◌, codes, decimal, ◌==◌}
 use Rattle.listing.specs.Lines.{key_shown, note_shown}
 use Rattle.dumping.specs.declared.line.Bounds.{Bounds}
 use Rattle.dumping.specs.declared.line.Line.{Line}

@@ -12,6 +12,7 @@ use listing::list;
 use packed::ByteStore;
 use std::env;
 use std::io::Read;
+use std::process::ExitCode;
 
 // Bytes of a log past this many are not read.
 const MOST_LOG: u64 = 65536;
@@ -66,7 +67,7 @@ fn print_dump(rt: &HostRuntime, kind: KeyKind) -> anyhow::Result<()> {
 
 fn unknown(rt: &HostRuntime, what: &str, word: &str) -> anyhow::Result<()> {
     let text = format!(in rt.alloc(); "unknown {what} '{word}'; see rangecat --help")?;
-    Err(text.into())
+    Err(anyhow!(text))
 }
 
 fn run(rt: &HostRuntime) -> anyhow::Result<()> {
@@ -94,12 +95,12 @@ fn run(rt: &HostRuntime) -> anyhow::Result<()> {
 }
 
 // A failure is told in one line, and ends the program with status 1.
-fn main(rt: HostRuntime) -> anyhow::Result<()> {
+fn main(rt: HostRuntime) -> ExitCode {
     match run(&rt) {
-        Ok(()) => Ok(()),
+        Ok(()) => ExitCode::SUCCESS,
         Err(error) => {
-            eprintln!(rt; "rangecat: {error}")?;
-            Err(error)
+            let _ = eprintln!(rt; "rangecat: {error}");
+            ExitCode::FAILURE
         }
     }
 }

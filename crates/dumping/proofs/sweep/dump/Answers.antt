@@ -1,4 +1,4 @@
-use Rattle.std.proofs.Common.{◌≡◌, ◌+◌, ◌<◌, ◌++◌, length, string_bytes, ap, ◌∙◌, arith}
+use Rattle.std.proofs.Common.{◌+◌, ◌<◌, ◌++◌, length, string_bytes, ap, ◌∙◌, arith}
 use Rattle.store.specs.Cells.{count_answer, mark_of, cell_at}
 use Rattle.dumping.specs.Marks.{all_marked}
 use Rattle.dumping.specs.Dumps.{cell_lines, counted}

@@ -1,9 +1,9 @@
-use Rattle.std.proofs.Common.{◌≡◌, ◌++◌, length, string_bytes, codes, decimal, sym, ap, ◌∙◌, append-nil}
+use Rattle.std.proofs.Common.{◌++◌, length, string_bytes, codes, decimal, sym, ap, ◌∙◌, append-nil}
 use Rattle.listing.specs.Listings.{newline}
 use Rattle.listing.proofs.Turns.{made_as}
 use Rattle.store.proofs.Insides.{read_inside}
 use Rattle.store.proofs.Uses.{mark_is, mark_taken}
-use Rattle.store.specs.Cells.{cell_at, mark_of}
+use Rattle.store.specs.Cells.{cell_at}
 use Rattle.dumping.specs.Marks.{marked, mark_shown}
 use Rattle.dumping.specs.Nodes.{line_shown}
 use Rattle.dumping.proofs.Cells.{inside, free_line, node_line, closed_line}

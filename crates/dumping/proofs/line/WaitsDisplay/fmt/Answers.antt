@@ -1,10 +1,9 @@
-use Rattle.std.proofs.Common.{◌≡◌, ◌/◌, ◌%◌, ◌^◌, false, eqb, sym, refl, ap, ◌∙◌, subst, arith, rules}
+use Rattle.std.proofs.Common.{◌≡◌, refl, ap, ◌∙◌, arith}
 use Rattle.std.proofs.Output.{writes_in_calls_nil, has_written_append, has_written_of_eq, has_written_to_eq}
-use Rattle.std.proofs.lemmas.Bool.{ne_eqb}
-use Rattle.dumping.specs.Nodes.{sessions, waits_shown}
+use Rattle.dumping.specs.Nodes.{sessions}
 use Rattle.dumping.proofs.Sessions.{set_more, clear_more, some_shown}
 use Rattle.dumping.proofs.line.WaitsDisplay.fmt.Goals as goal
-use Rattle.dumping.proofs.line.WaitsDisplay.fmt.Goals.{then-self-session-eq1+in-ok-write, else-self-session-eq1}
+use Rattle.dumping.proofs.line.WaitsDisplay.fmt.Goals.{then-self-session-eq1+in_ok-write, else-self-session-eq1}
 
 pub loop-session-init : goal.loop-session-init
 loop-session-init g c plain = record { wrote = writes_in_calls_nil g.W.Write.write_str_gives _; plain = plain }
