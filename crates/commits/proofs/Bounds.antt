@@ -1,22 +1,19 @@
 -- What a rotation takes apart are nodes of the store, and it wants at most three new nodes; so does a new node that is balanced.
-use Rattle.std.proofs.Common.{◌≡◌, ℕ, ◌+◌, ◌*◌, ◌≤◌, Bool, true, false, cond, eqb, ltb, List, [], ◌∷◌, ◌++◌, length, Some, None, Ok, Err, Option, Result, sym, refl, ap, ◌∙◌, subst, arith}
-use Rattle.store.specs.Nodes.{region_of}
+use Rattle.std.proofs.Common.{◌≡◌, ℕ, ◌+◌, ◌*◌, ◌≤◌, Bool, true, false, cond, eqb, ltb, List, [], ◌∷◌, ◌++◌, length, Some, None, Ok, Err, Option, Result, sym, refl, ap, subst, arith}
 use Rattle.std.proofs.lemmas.Bool.{eqb-true}
 use Rattle.store.specs.declared.node.Node.{Node}
 use Rattle.store.specs.declared.fault.StoreFault.{StoreFault}
 use Rattle.store.specs.declared.fault.Function.TheVariants.{Read, Mark}
 use Rattle.store.specs.Faults.{outside}
-use Rattle.store.specs.Cells.{Cell, read_answer, mark_answer, shown, cell_at}
+use Rattle.store.specs.Cells.{Cell, read_answer, mark_answer}
 use Rattle.store.proofs.Insides.{answered}
 use Rattle.store.specs.declared.node.Region.{Region}
 use Rattle.drafts.specs.declared.link.Numbered.{Numbered}
 use Rattle.drafts.specs.declared.link.Lean.{Lean}
 use Rattle.drafts.specs.declared.link.Lean.TheVariants.{Right, Left}
 use Rattle.drafts.specs.Grown.{Grown, kept, built, Seen, nothing, stored, fresh, Parts, Built, bind, tree, weight, opened, without, seen, node_seen, joined, near, far, joined_by, single, lifted, raised, double, double_by, turned, turned_by, turned_over, turned_of, rotated, heavy_side, balanced, balanced_by}
-use Rattle.commits.specs.declared.writes.Joint.{Joint}
-use Rattle.commits.specs.declared.writes.Joint.TheVariants.{Root, Under}
 use Rattle.search.specs.Frees.{Chosen}
-use Rattle.commits.specs.Commits.{news, GoneInside, JointInside, AllInside}
+use Rattle.commits.specs.Commits.{news, GoneInside, AllInside}
 
 pub bind_inv : {A B E : Type 0} (m : Result A E) (f : A → Result B E) (b : B) → Ok b ≡ bind m f → (a : A) × (Ok a ≡ m) × (Ok b ≡ f a)
 bind_inv (Ok a) f b e = (a, refl, e)

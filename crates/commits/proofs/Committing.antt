@@ -1,5 +1,5 @@
 -- Writes made one after another, and a tree put into the store.
-use Rattle.std.proofs.Common.{◌≡◌, ℕ, zero, suc, ◌+◌, ◌-◌, ◌<◌, ◌≤◌, Bool, true, false, List, [], ◌∷◌, ◌++◌, map, length, take, Ok, Err, Result, sym, refl, ap, ◌∙◌, subst, append-nil, arith, take_all}
+use Rattle.std.proofs.Common.{◌≡◌, ℕ, zero, suc, ◌+◌, ◌<◌, ◌≤◌, false, List, [], ◌∷◌, ◌++◌, map, length, take, Ok, Err, Result, sym, refl, ap, ◌∙◌, subst, arith, take_all}
 use Rattle.store.specs.declared.node.Node.{Node}
 use Rattle.store.specs.declared.fault.StoreFault.{StoreFault}
 use Rattle.store.specs.Faults.{outside}
@@ -18,7 +18,7 @@ use Rattle.search.specs.Firsts.{first, later}
 use Rattle.commits.specs.declared.writes.Joint.{Joint}
 use Rattle.commits.specs.declared.writes.Joint.TheVariants.{Root, Under}
 use Rattle.drafts.specs.declared.link.Lean.{Lean}
-use Rattle.commits.specs.Commits.{Writes, AllInside, Placing, new_node, news, over, placed, with_link, hung, root_after, JointInside, leaving, left_behind, committed, GoneInside}
+use Rattle.commits.specs.Commits.{Writes, AllInside, Placing, new_node, news, placed, with_link, hung, root_after, JointInside, leaving, left_behind, committed, GoneInside}
 
 later_length : (ns : List ℕ) → 0 < length ns → length (later ns) + 1 ≡ length ns
 later_length [] h = let w : ⊥ = omega arith in elim w [ ]

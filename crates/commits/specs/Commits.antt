@@ -1,5 +1,5 @@
 -- What an edit writes: a tree that was built, one link, and the nodes that leave.
-use Rattle.std.specs.Prelude.{◌≡◌, ℕ, ◌+◌, Bool, true, false, cond, List, [], ◌∷◌, ◌++◌, map, length, ◌==◌}
+use Rattle.std.specs.Prelude.{◌≡◌, ℕ, ◌+◌, false, cond, List, [], ◌∷◌, ◌++◌, map, ◌==◌}
 use Rattle.store.specs.declared.node.Node.{Node}
 use Rattle.store.specs.Faults.{outside}
 use Rattle.store.specs.Cells.{Cell, Written}

@@ -1,5 +1,5 @@
 -- One call of a run: what it does to the tree, and to the nodes that have left the tree since a lookup was opened.
-use Rattle.std.proofs.Common.{◌≡◌, ℕ, ◌-◌, ◌≤◌, Bool, true, false, T, ◌⊎◌, List, [], ◌∷◌, length, Some, None, Option, sym, refl, ap, ◌∙◌, subst, inl, inr, arith}
+use Rattle.std.proofs.Common.{◌≡◌, ℕ, ◌≤◌, Bool, true, false, T, ◌⊎◌, List, ◌∷◌, length, Some, None, Option, sym, refl, ap, ◌∙◌, subst, inl, inr, arith}
 use Rattle.store.specs.declared.node.Region.{Region}
 use Rattle.store.specs.Cells.{mark_of, cell_at}
 use Rattle.trees.specs.Regions.{Laws, gives}
@@ -10,7 +10,7 @@ use Rattle.trees.specs.Steps.{StepsWell}
 use Rattle.trees.proofs.Spells.{set_finds}
 use Rattle.runs.specs.Calls.{Kind, regions, edit_of, accepted}
 use Rattle.runs.specs.Histories.{open_since}
-use Rattle.runs.specs.States.{State, Cells, waiting}
+use Rattle.runs.specs.States.{State, Cells}
 use Rattle.runs.specs.Effects.{TreeAfter, Done}
 use Rattle.runs.specs.Runs.{Turn, history, state}
 use Rattle.runs.proofs.Links.{leads_in, in_leads}

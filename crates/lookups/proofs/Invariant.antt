@@ -1,5 +1,5 @@
 -- What holds of every open lookup after each call of a run, and that each call keeps it.
-use Rattle.std.proofs.Common.{◌≡◌, ℕ, suc, ◌-◌, ◌<◌, ◌≤◌, T, List, [], ◌∷◌, length, get_or, Some, None, Option, sym, refl, ap, ◌∙◌, subst, arith, le→leb}
+use Rattle.std.proofs.Common.{◌≡◌, ℕ, suc, ◌<◌, ◌≤◌, T, List, [], ◌∷◌, length, get_or, Some, None, Option, sym, refl, ap, ◌∙◌, subst, arith, le→leb}
 use Rattle.store.specs.declared.node.Region.{Region}
 use Rattle.trees.specs.Regions.{Laws, gives}
 use Rattle.trees.specs.Trees.{Tree, leaf, node, seek}

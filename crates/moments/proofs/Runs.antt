@@ -1,5 +1,5 @@
 -- Runs of exact calls keep the invariant; and so do the runs of a catalogue whose calls are exact.
-use Rattle.std.proofs.Common.{◌≡◌, ℕ, List, [], ◌∷◌, sym, refl, ap, subst}
+use Rattle.std.proofs.Common.{◌≡◌, ℕ, List, [], ◌∷◌, sym, refl, subst}
 use Rattle.store.specs.Fits.{FitCells}
 use Rattle.store.specs.declared.node.Region.{Region}
 use Rattle.trees.specs.Regions.{Laws}
@@ -11,7 +11,7 @@ use Rattle.runs.specs.Calls.{Kind, regions, accepted}
 use Rattle.runs.specs.States.{State, Cells, meant, JustMade}
 use Rattle.runs.specs.Effects.{Exact}
 use Rattle.runs.specs.Runs.{Turn, turn, history, state, meant_turns, Run, making, calling}
-use Rattle.runs.specs.Promise.{LastExact, Kept, Throughout}
+use Rattle.runs.specs.Promise.{LastExact, Throughout}
 use Rattle.runs.proofs.Chains.{place_is_enough}
 use Rattle.moments.specs.Invariant.{open_sessions, Framed, scene_at, Inv, ExactRun}
 use Rattle.lookups.specs.Throughout.{LookupsKept}

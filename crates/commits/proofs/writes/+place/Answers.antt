@@ -1,4 +1,4 @@
-use Rattle.std.proofs.Common.{◌≡◌, suc, ◌+◌, ◌<◌, ◌≤◌, length, refl, ap, ◌∙◌, arith, rules}
+use Rattle.std.proofs.Common.{◌≡◌, suc, ◌+◌, ◌≤◌, length, refl, ap, ◌∙◌, arith, rules}
 use Rattle.drafts.specs.Drafts.{tree_of, height}
 use Rattle.search.specs.Frees.{left_of}
 use Rattle.commits.specs.Commits.{news, AllInside}
@@ -21,7 +21,7 @@ place-requires g t c =
 
 pub place-requires-in-New : goal.place-requires-in-New
 place-requires-in-New g t c =
-    let q = c.in_ok-left.ensures in
+    let q = c.in_ok-left-in-New.ensures in
     let e = news_new c.args.draft.now c.args.link c.in-New.i c.entry-b.result c.in-New.is c.entry-b.ensures.stands in
     let many : news (tree_of c.args.draft.now c.entry-b.result.right) ≤ length (left_of c.place.new.found) =
     many_after (tree_of c.args.draft.now c.entry-b.result.left) (left_of c.args.found.now) _ _ q.left (omega (arith, e, c.requires.many)) in
@@ -35,8 +35,8 @@ place-requires-in-New g t c =
 
 pub next-n-requires : goal.next-n-requires
 next-n-requires g t c =
-    let q = c.in_ok-left.ensures in
-    let r = c.in_ok-right.ensures in
+    let q = c.in_ok-left-in-New.ensures in
+    let r = c.in_ok-right-in-New.ensures in
     let e = news_new c.args.draft.now c.args.link c.in-New.i c.entry-b.result c.in-New.is c.entry-b.ensures.stands in
     let many : news (tree_of c.args.draft.now c.entry-b.result.right) + 1 ≤ length (left_of c.place.new.found) =
     many_after (tree_of c.args.draft.now c.entry-b.result.left) (left_of c.args.found.now) _ _ q.left (omega (arith, e, c.requires.many)) in
@@ -44,16 +44,16 @@ next-n-requires g t c =
     many_after (tree_of c.args.draft.now c.entry-b.result.right) (left_of c.place.new.found) _ _ r.left many in
     record { count = omega (arith, q.count, r.count, c.requires.count); some = omega arith }
 
-pub returns-in_err-left : goal.returns-in_err-left
-returns-in_err-left g t c = absurd c.in_err-left.ensures.value
+pub returns-in_err-left-in-New : goal.returns-in_err-left-in-New
+returns-in_err-left-in-New g t c = absurd c.in_err-left-in-New.ensures.value
 
-pub returns-in_err-right : goal.returns-in_err-right
-returns-in_err-right g t c = absurd c.in_err-right.ensures.value
+pub returns-in_err-right-in-New : goal.returns-in_err-right-in-New
+returns-in_err-right-in-New g t c = absurd c.in_err-right-in-New.ensures.value
 
-pub returns-in_err-write : goal.returns-in_err-write
-returns-in_err-write g t c =
-    let q = c.in_ok-left.ensures in
-    let r = c.in_ok-right.ensures in
+pub returns-in_err-write-in-New : goal.returns-in_err-write-in-New
+returns-in_err-write-in-New g t c =
+    let q = c.in_ok-left-in-New.ensures in
+    let r = c.in_ok-right-in-New.ensures in
     let e = news_new c.args.draft.now c.args.link c.in-New.i c.entry-b.result c.in-New.is c.entry-b.ensures.stands in
     let many : news (tree_of c.args.draft.now c.entry-b.result.right) + 1 ≤ length (left_of c.place.new.found) =
     many_after (tree_of c.args.draft.now c.entry-b.result.left) (left_of c.args.found.now) _ _ q.left (omega (arith, e, c.requires.many)) in
@@ -63,16 +63,16 @@ returns-in_err-write g t c =
     inside_after (g.S.Store.cells c.args.store.now) _ (tree_of c.args.draft.now c.entry-b.result.left) _ (left_of c.args.found.now) _ q.writes q.left c.requires.inside in
     let inside' : AllInside (length (g.S.Store.cells c.place-in-New.new.store)) (left_of c.place-in-New.new.found) =
     inside_after (g.S.Store.cells c.place.new.store) _ (tree_of c.args.draft.now c.entry-b.result.right) _ (left_of c.place.new.found) _ r.writes r.left inside in
-    absurd (no_refusal (g.S.Store.cells c.place-in-New.new.store) c.next-n.result _ (next_inside _ c.next-n.result (left_of c.place-in-New.new.found) c.next-n.ensures.value some inside') c.in_err-write.ensures.value)
+    absurd (no_refusal (g.S.Store.cells c.place-in-New.new.store) c.next-n.result _ (next_inside _ c.next-n.result (left_of c.place-in-New.new.found) c.next-n.ensures.value some inside') c.in_err-write-in-New.ensures.value)
 
-pub returns-in_ok-write : goal.returns-in_ok-write
-returns-in_ok-write g t c =
-    let q = c.in_ok-left.ensures in
-    let r = c.in_ok-right.ensures in
+pub returns-in_ok-write-in-New : goal.returns-in_ok-write-in-New
+returns-in_ok-write-in-New g t c =
+    let q = c.in_ok-left-in-New.ensures in
+    let r = c.in_ok-right-in-New.ensures in
     let n = c.next-n.ensures in
-    let u = c.in_ok-write.ensures in
+    let u = c.in_ok-write-in-New.ensures in
     let p = placed_new (g.S.Store.cells c.args.store.now) (g.S.Store.cells c.place.new.store) (g.S.Store.cells c.place-in-New.new.store) (g.S.Store.cells c.write.new.self)
     c.args.draft.now c.args.link c.in-New.i c.entry-b.result (left_of c.args.found.now) (left_of c.place.new.found) (left_of c.place-in-New.new.found) (left_of c.next-n.new.self)
-    c.in_ok-left.left c.in_ok-right.right c.next-n.result c.in-New.is c.entry-b.ensures.stands
+    c.in_ok-left-in-New.left c.in_ok-right-in-New.right c.next-n.result c.in-New.is c.entry-b.ensures.stands
     (record { top = q.value; writes = q.writes; rest = q.left }) (record { top = r.value; writes = r.writes; rest = r.left }) n.value n.left u.after in
     record { value = p.top; writes = p.writes; left = p.rest; count = n.count ∙ r.count ∙ q.count; keeps = λ f. u.keeps (r.keeps (q.keeps f)) }

@@ -1,4 +1,4 @@
-use Rattle.std.proofs.Common.{◌≡◌, ◌+◌, ◌<◌, ◌≤◌, false, length, sym, ap, ◌∙◌, subst, arith, rules}
+use Rattle.std.proofs.Common.{length, ap, ◌∙◌, subst, arith, rules}
 use Rattle.store.specs.Cells.{Written}
 use Rattle.store.specs.Faults.{outside}
 use Rattle.drafts.specs.Drafts.{gone_of}
