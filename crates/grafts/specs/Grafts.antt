@@ -53,7 +53,7 @@ abbrev pub tells_same : {F : Type 0} → Result Order F → Bool
 tells_same (Ok o) = tells_same_order o
 tells_same (Err f) = false
 
--- whether two keys are the same: an ill_formed key is the same as none
+-- whether two keys are the same: an ill-formed key is the same as none
 unfoldable pub same_by : {K F : Type 0} → (K → Option F) → (K → K → Order) → K → K → Bool
 same_by fault order a b = tells_same (compared (fault a) (fault b) (order a b))
 

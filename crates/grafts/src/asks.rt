@@ -50,7 +50,7 @@ fn tells_same(order: Order) -> bool
     }
 }
 
-// Whether two keys are the same; an ill_formed key is the same as none.
+// Whether two keys are the same; an ill-formed key is the same as none.
 fn same<K: Ordered>(a: &K, b: &K) -> bool
     ensures { result ≡ same_by K.Ordered.fault K.Ordered.order a.now b.now }
 {

@@ -28,7 +28,7 @@ pub trait Ordered: Sized {
     fn check(&self) -> Result<(), Self::Fault>
         ensures { result ≡ checked (fault self.now) tt };
 
-    // How the element stands to the other, or the fault of an ill_formed one: the first's where both are.
+    // How the element stands to the other, or the fault of an ill-formed one: the first's where both are.
     fn compare(&self, other: &Self) -> Result<Order, Self::Fault>
         ensures { result ≡ compared (fault self.now) (fault other.now) (order self.now other.now) };
 

@@ -24,7 +24,7 @@ any_fault_shown (faulty.Text f) = text_fault_shown f
 -- behind the fields: nothing of a well-formed key, else the argument that it is and its fault
 abbrev pub noted : List ℕ → Option AnyFault → List ℕ
 noted argument None = []
-noted argument (Some f) = codes " ill_formed " ++ (argument ++ (codes " " ++ any_fault_shown f))
+noted argument (Some f) = codes " ill-formed " ++ (argument ++ (codes " " ++ any_fault_shown f))
 
 abbrev pub note_shown : List ℕ → AnyKey → List ℕ
 note_shown argument key = noted argument (any_fault key)

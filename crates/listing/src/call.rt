@@ -101,7 +101,7 @@ impl fmt::Display for Note<'_> {
         let argument = self.argument;
         match self.key.fault() {
             None => Ok(()),
-            Some(fault) => write!(f, " ill_formed {argument} {fault}"),
+            Some(fault) => write!(f, " ill-formed {argument} {fault}"),
         }
     }
 }

@@ -12,7 +12,7 @@ use Rattle.runs.specs.declared.call.Refusal.TheVariants.{BadSize, NoSession, Has
 use Rattle.runs.specs.declared.call.Answer.{Answer}
 use Rattle.runs.specs.declared.call.Answer.TheVariants.{Pending, Opened, Closed, On, Nothing, Found, Nodes, Refused}
 
--- a kind of keys: the fault of an ill_formed key, how two keys compare, and the key that stands where there is none
+-- a kind of keys: the fault of an ill-formed key, how two keys compare, and the key that stands where there is none
 pub record Kind (K F : Type 0) : Type 0 where
   pub fault : K → Option F
   pub order : K → K → Order

@@ -22,7 +22,7 @@ abbrev pub tells_below : {F : Type 0} → Result Order F → Bool
 tells_below (Ok o) = is_below o
 tells_below (Err f) = false
 
--- whether a key is below another: an ill_formed key is below none, and none is below it
+-- whether a key is below another: an ill-formed key is below none, and none is below it
 unfoldable pub less_by : {K F : Type 0} → (K → Option F) → (K → K → Order) → K → K → Bool
 less_by fault order a b = tells_below (compared (fault a) (fault b) (order a b))
 

@@ -25,7 +25,7 @@ fn tells_below(order: Order) -> bool
     }
 }
 
-// Whether a key is below another; an ill_formed key is below none, and none is below it.
+// Whether a key is below another; an ill-formed key is below none, and none is below it.
 fn less<K: Ordered>(a: &K, b: &K) -> bool
     ensures { result ≡ less_by K.Ordered.fault K.Ordered.order a.now b.now }
 {

@@ -28,16 +28,16 @@ returns-in_err-w g c =
       keeps = λ h. h;
     }
 
-pub returns-in_err-put_to : goal.returns-in_err-put_to
-returns-in_err-put_to g c =
+pub returns-in_err-put_to-in-None : goal.returns-in_err-put_to-in-None
+returns-in_err-put_to-in-None g c =
     let e = during_ok Rotation c.weigh_up.result c.in_ok-w.w c.in_ok-w.ensures in
     let v = sym (ap (sized_in c.wipe.new.draft) e) ∙ c.weigh_up.ensures.value in
-    let p = during_err Rotation c.write.result _ c.in_err-put_to.ensures in
+    let p = during_err Rotation c.write.result _ c.in_err-put_to-in-None.ensures in
     let b = sized_bound (g.S.Store.cells c.args.store.now) c.in-Some.n _ v in
     absurd (no_refusal (g.S.Store.cells c.args.store.now) c.in_ok-w.w.node.number p.0 b.node (sym p.1 ∙ c.write.ensures.value))
 
-pub returns-in_ok-put_to : goal.returns-in_ok-put_to
-returns-in_ok-put_to g c =
+pub returns-in_ok-put_to-in-None : goal.returns-in_ok-put_to-in-None
+returns-in_ok-put_to-in-None g c =
     let e = during_ok Rotation c.weigh_up.result c.in_ok-w.w c.in_ok-w.ensures in
     let v = sym (ap (sized_in c.wipe.new.draft) e) ∙ c.weigh_up.ensures.value in
     record {
@@ -59,23 +59,23 @@ turn_node-requires g c =
     let from : (n : ℕ) × (sized_in c.wipe.new.draft (Ok c.in_ok-w.w) ≡ sized (g.S.Store.cells c.args.store.now) n) = (c.in-Some.n, v) in
     (search rules, (count, (out, (left, (right, from)))))
 
-pub returns-in_err-turn_node : goal.returns-in_err-turn_node
-returns-in_err-turn_node g c =
+pub returns-in_err-turn_node-in-Some-overweight : goal.returns-in_err-turn_node-in-Some-overweight
+returns-in_err-turn_node-in-Some-overweight g c =
     let e = during_ok Rotation c.weigh_up.result c.in_ok-w.w c.in_ok-w.ensures in
     let v = sym (ap (sized_in c.wipe.new.draft) e) ∙ c.weigh_up.ensures.value in
-    let p = err_from_is_err_and c.from_residual-in_err-turn_node.result c.from_residual-in_err-turn_node.ensures.1 in
-    let t = c.in_err-turn_node.ensures in
+    let p = err_from_is_err_and c.from_residual-in_err-turn_node-in-Some-overweight.result c.from_residual-in_err-turn_node-in-Some-overweight.ensures.1 in
+    let t = c.in_err-turn_node-in-Some-overweight.ensures in
     record {
       edits = ends_unturned (g.S.Store.cells c.args.store.now) (held c.args.path.now) c.args.root.now c.args.sessions (g.S.Store.cells c.turn_node.new.store) c.in-Some.n c.weigh.result c.weigh-2.result _ _ (held c.up-above.result) c.in-Some-overweight.lean _ _ _
           c.in-Some.ensures v c.in-Some-overweight.ensures (c.weigh.ensures.value ∙ sym (weight_seen c.wipe.new.draft c.in_ok-w.w.left)) (c.weigh-2.ensures.value ∙ sym (weight_seen c.wipe.new.draft c.in_ok-w.w.right)) c.up-above.ensures t.turns p.1 p.2;
       keeps = t.keeps;
     }
 
-pub returns-in_ok-turn_node : goal.returns-in_ok-turn_node
-returns-in_ok-turn_node g c =
+pub returns-in_ok-turn_node-in-Some-overweight : goal.returns-in_ok-turn_node-in-Some-overweight
+returns-in_ok-turn_node-in-Some-overweight g c =
     let e = during_ok Rotation c.weigh_up.result c.in_ok-w.w c.in_ok-w.ensures in
     let v = sym (ap (sized_in c.wipe.new.draft) e) ∙ c.weigh_up.ensures.value in
-    let t = c.in_ok-turn_node.ensures in
+    let t = c.in_ok-turn_node-in-Some-overweight.ensures in
     record {
       edits = ends_turned (g.S.Store.cells c.args.store.now) (held c.args.path.now) c.args.root.now c.args.sessions (g.S.Store.cells c.turn_node.new.store) c.in-Some.n c.weigh.result c.weigh-2.result c.len-in-Some-overweight.result _ _ (held c.up-above.result) c.in-Some-overweight.lean
           c.in-Some.ensures v c.in-Some-overweight.ensures (c.weigh.ensures.value ∙ sym (weight_seen c.wipe.new.draft c.in_ok-w.w.left)) (c.weigh-2.ensures.value ∙ sym (weight_seen c.wipe.new.draft c.in_ok-w.w.right)) c.up-above.ensures c.len-in-Some-overweight.ensures.value t.turns;

@@ -9,18 +9,18 @@ returns-in_err-v g t c =
     let p = err_from_is_err_and c.from_residual.result c.from_residual.ensures.1 in
     walk_unread c.args.depth (g.S.Store.cells c.args.store.now) c.args.edge.now c.args.draft.now c.args.n c.in_err-v.field-0.0 p.0 c.from_residual.result c.in_err-v.ensures p.1 p.2
 
-pub returns-in_err-end : goal.returns-in_err-end
-returns-in_err-end g t c =
-    let p = err_from_is_err_and c.from_residual-in_err-end.result c.from_residual-in_err-end.ensures.1 in
+pub returns-in_err-end-in-None : goal.returns-in_err-end-in-None
+returns-in_err-end-in-None g t c =
+    let p = err_from_is_err_and c.from_residual-in_err-end-in-None.result c.from_residual-in_err-end-in-None.ensures.1 in
     let e = c.leave.ensures in
-    walk_end_stop c.args.depth (g.S.Store.cells c.args.store.now) c.args.edge.now c.args.draft.now c.leave.new.draft c.end_edge.new.draft c.args.n c.in_ok-v.v c.in_err-end.field-0.0 p.0 c.from_residual-in_err-end.result c.in_ok-v.ensures c.in-None.ensures
-    (record { gone = e.gone; grew = grew_left c.args.draft.now c.leave.new.draft e.out e.made e.count }) c.in_err-end.ensures p.1 p.2
+    walk_end_stop c.args.depth (g.S.Store.cells c.args.store.now) c.args.edge.now c.args.draft.now c.leave.new.draft c.end_edge.new.draft c.args.n c.in_ok-v.v c.in_err-end-in-None.field-0.0 p.0 c.from_residual-in_err-end-in-None.result c.in_ok-v.ensures c.in-None.ensures
+    (record { gone = e.gone; grew = grew_left c.args.draft.now c.leave.new.draft e.out e.made e.count }) c.in_err-end-in-None.ensures p.1 p.2
 
-pub returns-in_ok-end : goal.returns-in_ok-end
-returns-in_ok-end g t c =
+pub returns-in_ok-end-in-None : goal.returns-in_ok-end-in-None
+returns-in_ok-end-in-None g t c =
     let e = c.leave.ensures in
-    walk_end_done c.args.depth (g.S.Store.cells c.args.store.now) c.args.edge.now c.args.draft.now c.leave.new.draft c.end_edge.new.draft c.args.n c.in_ok-v.v c.in_ok-end.end c.in_ok-v.ensures c.in-None.ensures
-    (record { gone = e.gone; grew = grew_left c.args.draft.now c.leave.new.draft e.out e.made e.count }) c.in_ok-end.ensures
+    walk_end_done c.args.depth (g.S.Store.cells c.args.store.now) c.args.edge.now c.args.draft.now c.leave.new.draft c.end_edge.new.draft c.args.n c.in_ok-v.v c.in_ok-end-in-None.end c.in_ok-v.ensures c.in-None.ensures
+    (record { gone = e.gone; grew = grew_left c.args.draft.now c.leave.new.draft e.out e.made e.count }) c.in_ok-end-in-None.ensures
 
 pub overflow_sub-depth : goal.overflow_sub-depth
 overflow_sub-depth g t c = deeper c.args.depth c.in_ok-v.v.left c.in-Some.m c.in-Some.ensures
@@ -32,19 +32,19 @@ walk-requires g t c κs within =
     let f = c.leave.ensures.out in
     search rules
 
-pub returns-in_err-least : goal.returns-in_err-least
-returns-in_err-least g t c =
-    let p = err_from_is_err_and c.from_residual-in_err-least.result c.from_residual-in_err-least.ensures.1 in
+pub returns-in_err-least-in-Some : goal.returns-in_err-least-in-Some
+returns-in_err-least-in-Some g t c =
+    let p = err_from_is_err_and c.from_residual-in_err-least-in-Some.result c.from_residual-in_err-least-in-Some.ensures.1 in
     let h = deeper c.args.depth c.in_ok-v.v.left c.in-Some.m c.in-Some.ensures in
     let s : c.args.depth ≡ suc (c.args.depth - 1) = omega (arith, h) in
     let e = c.leave.ensures in
     walk_on_stop c.args.depth (c.args.depth - 1) (g.S.Store.cells c.args.store.now) c.args.edge.now c.args.draft.now c.leave.new.draft c.walk.new.draft c.walk.new.draft c.args.n c.in-Some.m
-    c.in_ok-v.v c.in_err-least.field-0.0 p.0 c.from_residual-in_err-least.result s c.in_ok-v.ensures c.in-Some.ensures (record { gone = e.gone; grew = grew_left c.args.draft.now c.leave.new.draft e.out e.made e.count }) c.in_err-least.ensures p.1 p.2
+    c.in_ok-v.v c.in_err-least-in-Some.field-0.0 p.0 c.from_residual-in_err-least-in-Some.result s c.in_ok-v.ensures c.in-Some.ensures (record { gone = e.gone; grew = grew_left c.args.draft.now c.leave.new.draft e.out e.made e.count }) c.in_err-least-in-Some.ensures p.1 p.2
 
 pub copy_over-requires : goal.copy_over-requires
 copy_over-requires g t c =
     let h = deeper c.args.depth c.in_ok-v.v.left c.in-Some.m c.in-Some.ensures in
-    let m = c.in_ok-least.ensures in
+    let m = c.in_ok-least-in-Some.ensures in
     let few = m.grew.few in
     let few_out = m.grew.few_out in
     let left = m.good in
@@ -52,22 +52,22 @@ copy_over-requires g t c =
     let out = c.leave.ensures.out in
     search rules
 
-pub returns-in_err-side : goal.returns-in_err-side
-returns-in_err-side g t c =
-    let p = err_from_is_err_and c.from_residual-in_err-side.result c.from_residual-in_err-side.ensures.1 in
+pub returns-in_err-side-in-Some : goal.returns-in_err-side-in-Some
+returns-in_err-side-in-Some g t c =
+    let p = err_from_is_err_and c.from_residual-in_err-side-in-Some.result c.from_residual-in_err-side-in-Some.ensures.1 in
     let h = deeper c.args.depth c.in_ok-v.v.left c.in-Some.m c.in-Some.ensures in
     let s : c.args.depth ≡ suc (c.args.depth - 1) = omega (arith, h) in
     let e = c.leave.ensures in
     walk_uncopied c.args.depth (c.args.depth - 1) (g.S.Store.cells c.args.store.now) c.args.edge.now c.args.draft.now c.leave.new.draft c.walk.new.draft c.copy_over.new.draft c.args.n c.in-Some.m
-    c.in_ok-v.v c.in_ok-least.least c.in_ok-least.left c.in_err-side.field-0.0 p.0 c.from_residual-in_err-side.result s c.in_ok-v.ensures c.in-Some.ensures (record { gone = e.gone; grew = grew_left c.args.draft.now c.leave.new.draft e.out e.made e.count })
-    c.in_ok-least.ensures c.in_err-side.ensures p.1 p.2
+    c.in_ok-v.v c.in_ok-least-in-Some.least c.in_ok-least-in-Some.left c.in_err-side-in-Some.field-0.0 p.0 c.from_residual-in_err-side-in-Some.result s c.in_ok-v.ensures c.in-Some.ensures (record { gone = e.gone; grew = grew_left c.args.draft.now c.leave.new.draft e.out e.made e.count })
+    c.in_ok-least-in-Some.ensures c.in_err-side-in-Some.ensures p.1 p.2
 
-pub returns-in_ok-side : goal.returns-in_ok-side
-returns-in_ok-side g t c =
+pub returns-in_ok-side-in-Some : goal.returns-in_ok-side-in-Some
+returns-in_ok-side-in-Some g t c =
     let h = deeper c.args.depth c.in_ok-v.v.left c.in-Some.m c.in-Some.ensures in
     let s : c.args.depth ≡ suc (c.args.depth - 1) = omega (arith, h) in
     let e = c.leave.ensures in
     let r = walk_done c.args.depth (c.args.depth - 1) (g.S.Store.cells c.args.store.now) c.args.edge.now c.args.draft.now c.leave.new.draft c.walk.new.draft c.copy_over.new.draft c.args.n c.in-Some.m
-    c.in_ok-v.v c.in_ok-least.least c.in_ok-least.left c.in_ok-side.side s c.in_ok-v.ensures c.in-Some.ensures
-    (record { gone = e.gone; grew = grew_left c.args.draft.now c.leave.new.draft e.out e.made e.count }) c.in_ok-least.ensures c.in_ok-side.ensures in
+    c.in_ok-v.v c.in_ok-least-in-Some.least c.in_ok-least-in-Some.left c.in_ok-side-in-Some.side s c.in_ok-v.ensures c.in-Some.ensures
+    (record { gone = e.gone; grew = grew_left c.args.draft.now c.leave.new.draft e.out e.made e.count }) c.in_ok-least-in-Some.ensures c.in_ok-side-in-Some.ensures in
     search rules
