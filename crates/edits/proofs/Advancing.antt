@@ -1,5 +1,5 @@
 -- The steps of an advance.
-use Rattle.std.proofs.Common.{◌≡◌, ℕ, ◌+◌, ◌≤◌, Bool, true, false, cond, eqb, List, [], ◌∷◌, ◌++◌, length, take, Some, None, Ok, Err, Option, Result, sym, refl, ap, ◌∙◌, subst, arith}
+use Rattle.std.proofs.Common.{◌≡◌, ℕ, ◌+◌, List, [], ◌∷◌, ◌++◌, take, Some, None, Ok, Err, Result, sym, ap, ◌∙◌, arith}
 use Rattle.store.specs.Nodes.{region_of}
 use Rattle.store.specs.declared.node.Node.{Node}
 use Rattle.store.specs.declared.fault.StoreFault.{StoreFault}
@@ -9,16 +9,16 @@ use Rattle.drafts.specs.declared.link.Link.TheVariants.{Old}
 use Rattle.drafts.specs.declared.link.Side.{Side}
 use Rattle.drafts.specs.declared.link.Lean.{Lean}
 use Rattle.drafts.specs.declared.draft.Draft.{Draft}
-use Rattle.drafts.specs.Grown.{kept, Seen, Built, bind, seen, weight, size_over, rotated}
-use Rattle.drafts.specs.Drafts.{grown, tree_of, seen_of, Good, gone_of, side_weight, Grew, Makes, built_told}
-use Rattle.drafts.proofs.Seeing.{weight_seen, grew_wide, seen_same, good_stays}
+use Rattle.drafts.specs.Grown.{kept, Seen, seen, weight, size_over, rotated}
+use Rattle.drafts.specs.Drafts.{grown, tree_of, seen_of, Good, gone_of, side_weight, Grew, Makes}
+use Rattle.drafts.proofs.Seeing.{weight_seen, seen_same}
 use Rattle.drafts.proofs.Turning.{bind_at, bind_stop}
 use Rattle.commits.specs.declared.writes.Joint.{Joint}
 use Rattle.commits.specs.declared.writes.Joint.TheVariants.{Root, Under}
 use Rattle.edits.specs.declared.pending.Weighed.{Weighed}
 use Rattle.edits.specs.declared.pending.Plan.{Plan}
 use Rattle.search.specs.Paths.{lowest}
-use Rattle.edits.specs.Calls.{Sized, Turned, resized, sized, sized_of, sized_in, good_in, side_of, joint_at, joint_by, turned_at, turned_in, plan_good}
+use Rattle.edits.specs.Calls.{Sized, resized, sized, sized_of, sized_in, good_in, side_of, joint_at, joint_by, turned_at, turned_in, plan_good}
 
 module _ {K : Type 0} where
   sized_as : (n : ℕ) (v : Node K) (a b s : ℕ) (l r : Seen K) (u : Node K) → u ≡ resized s v → s ≡ size_over a b → a ≡ weight l → b ≡ weight r →

@@ -1,5 +1,5 @@
 -- The exits of a rotation: too few free nodes, a refused read, or all of it written.
-use Rattle.std.proofs.Common.{◌≡◌, ℕ, ◌<◌, ◌≤◌, min, Bool, true, false, cond, ltb, List, [], ◌∷◌, length, take, drop, Ok, Err, Result, sym, refl, ap, ◌∙◌, subst, arith}
+use Rattle.std.proofs.Common.{◌≡◌, ℕ, ◌<◌, ◌≤◌, cond, List, [], length, take, drop, Ok, Err, Result, sym, refl, ap, ◌∙◌, subst, arith}
 use Rattle.std.proofs.lemmas.Bool.{lt-ltb, le-ltb}
 use Rattle.store.specs.declared.fault.StoreFault.{StoreFault}
 use Rattle.store.specs.Cells.{Cell}
@@ -20,7 +20,7 @@ use Rattle.search.specs.declared.free.Found.{Found}
 use Rattle.edits.specs.Refusals.{during, refused_in}
 use Rattle.search.specs.Frees.{Chosen, Finds, free_count, found_of, left_of}
 use Rattle.commits.specs.Commits.{Writes, AllInside, news, placed, root_after, committed, GoneInside, JointInside}
-use Rattle.edits.specs.Calls.{Sized, Turned, Change, sized, turned_at, turned_change, rotation, Enough, TurnEnds, Turns}
+use Rattle.edits.specs.Calls.{Sized, Turned, sized, turned_at, turned_change, rotation, Enough, TurnEnds, Turns}
 use Rattle.commits.proofs.Bounds.{chosen_inside}
 use Rattle.edits.proofs.Weighing.{turned_bound}
 

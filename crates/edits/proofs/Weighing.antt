@@ -1,5 +1,5 @@
 -- What an advance takes apart are nodes of the store, and it wants at most three new nodes.
-use Rattle.std.proofs.Common.{◌≡◌, ℕ, ◌+◌, false, List, [], ◌∷◌, length, Some, None, Ok, Err, Option, Result, sym, refl, ap, ◌∙◌, subst, arith}
+use Rattle.std.proofs.Common.{◌≡◌, ℕ, ◌+◌, false, List, [], ◌∷◌, length, Some, None, Ok, Option, Result, subst, arith}
 use Rattle.store.specs.Nodes.{region_of}
 use Rattle.store.specs.declared.fault.StoreFault.{StoreFault}
 use Rattle.store.specs.Faults.{outside}
@@ -11,7 +11,7 @@ use Rattle.commits.specs.declared.writes.Joint.TheVariants.{Root, Under}
 use Rattle.search.specs.Paths.{lowest}
 use Rattle.commits.specs.Commits.{news, JointInside}
 use Rattle.commits.proofs.Bounds.{bind_inv, read_from, seen_fair, SeenInside, Bound, rotated_bound}
-use Rattle.edits.specs.Calls.{Sized, Turned, sized, sized_of, side_of, joint_by, joint_at, turned_at}
+use Rattle.edits.specs.Calls.{Sized, Turned, sized, side_of, joint_by, joint_at, turned_at}
 
 module _ {K : Type 0} where
   -- a node that was sized, and its sides

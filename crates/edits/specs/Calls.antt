@@ -1,16 +1,15 @@
 -- What the edits answer and leave, as functions of the memory, the root link and the pending path.
-use Rattle.std.specs.Prelude.{◌≡◌, ℕ, ◌≤◌, Bool, true, false, cond, List, [], ◌∷◌, length, Some, None, Ok, Err, Option, Result, ◌==◌, nat_lt}
+use Rattle.std.specs.Prelude.{◌≡◌, ℕ, ◌≤◌, cond, List, [], ◌∷◌, length, Some, None, Ok, Err, Option, Result, ◌==◌, nat_lt}
 use Rattle.store.specs.Nodes.{region_of}
 use Rattle.store.specs.declared.node.Node.{Node}
 use Rattle.store.specs.declared.fault.StoreFault.{StoreFault}
 use Rattle.store.specs.Cells.{Cell, read_answer}
 use Rattle.drafts.specs.declared.link.Numbered.{Numbered}
-use Rattle.drafts.specs.declared.link.Side.{Side}
 use Rattle.drafts.specs.declared.link.Lean.{Lean}
 use Rattle.drafts.specs.declared.link.Lean.TheVariants.{Right, Left}
 use Rattle.drafts.specs.declared.draft.Draft.{Draft}
 use Rattle.drafts.specs.Grown.{kept, Seen, Built, bind, seen, tree, weight, size_over, heavy_side, rotated}
-use Rattle.drafts.specs.Drafts.{seen_of, Good, gone_of, tree_of, Fine}
+use Rattle.drafts.specs.Drafts.{seen_of, Good, gone_of}
 use Rattle.edits.specs.declared.fault.Refusal.{Refusal}
 use Rattle.edits.specs.declared.fault.Refusal.TheVariants.{Resting, Crowded}
 use Rattle.edits.specs.declared.fault.Doing.TheVariants.{Rotation}
@@ -21,7 +20,7 @@ use Rattle.edits.specs.declared.pending.Plan.{Plan}
 use Rattle.search.specs.Paths.{lowest, above}
 use Rattle.edits.specs.Refusals.{refused_in}
 use Rattle.search.specs.Frees.{Chosen, free_count}
-use Rattle.commits.specs.Commits.{Writes, Placing, news, placed, root_after, committed}
+use Rattle.commits.specs.Commits.{Writes, news, placed, root_after, committed}
 
 -- a node with its sides, and its size set from them
 pub record Sized (K : Type 0) : Type 0 where

@@ -1,5 +1,5 @@
 -- What drop and split take apart are nodes of the store, and each of them wants at most 96 new nodes.
-use Rattle.std.proofs.Common.{◌≡◌, ℕ, zero, suc, ◌+◌, ◌*◌, ◌≤◌, false, List, [], ◌∷◌, ◌++◌, length, Some, None, Ok, Err, Option, Result, sym, refl, ap, ◌∙◌, subst, arith}
+use Rattle.std.proofs.Common.{◌≡◌, ℕ, zero, suc, ◌+◌, ◌*◌, ◌≤◌, false, List, [], ◌∷◌, ◌++◌, length, Some, None, Ok, Option, Result, refl, ap, subst, arith}
 use Rattle.store.specs.declared.node.Node.{Node}
 use Rattle.store.specs.declared.node.Region.{Region}
 use Rattle.store.specs.declared.fault.StoreFault.{StoreFault}
@@ -12,7 +12,7 @@ use Rattle.commits.specs.Commits.{news, GoneInside}
 use Rattle.commits.proofs.Bounds.{bind_inv, read_from, seen_fair, without_inside, Bound, balanced_bound}
 use Rattle.walks.specs.declared.walk.Edge.{Edge}
 use Rattle.walks.specs.declared.walk.Edge.TheVariants.{Cut, Grow}
-use Rattle.walks.specs.Walks.{Graft, Walked, numbered, sprout, graft_of, walked_as, edge_end, edge_over, edge_at, walked, merged, grown_by, parted}
+use Rattle.walks.specs.Walks.{Graft, Walked, numbered, sprout, walked_as, edge_end, edge_over, edge_at, walked, merged, grown_by, parted}
 use Rattle.walks.specs.Outcomes.{topped}
 
 module _ {K : Type 0} where

@@ -1,17 +1,15 @@
 -- One step after another: how what the draft came to follows what the definitions say.
-use Rattle.std.proofs.Common.{◌≡◌, ℕ, ◌+◌, ◌≤◌, List, [], ◌∷◌, ◌++◌, Ok, Err, Result, sym, refl, ap, ◌∙◌, subst, arith}
+use Rattle.std.proofs.Common.{◌≡◌, ℕ, ◌+◌, ◌≤◌, Ok, Err, Result, sym, refl, ap, ◌∙◌, subst, arith}
 use Rattle.store.specs.declared.fault.StoreFault.{StoreFault}
-use Rattle.store.specs.Cells.{Cell}
 use Rattle.drafts.specs.declared.link.Link.{Link}
-use Rattle.drafts.specs.declared.link.Numbered.{Numbered}
 use Rattle.drafts.specs.declared.link.Side.{Side}
 use Rattle.drafts.specs.declared.draft.Draft.{Draft}
-use Rattle.drafts.specs.Grown.{Built, bind, tree}
-use Rattle.drafts.specs.Drafts.{tree_of, Fine, gone_of, Grew, Good, seen_of, link_of, built_told, good_told, Makes}
+use Rattle.drafts.specs.Grown.{Built, bind}
+use Rattle.drafts.specs.Drafts.{tree_of, Fine, gone_of, Grew, Good, seen_of, link_of, Makes}
 use Rattle.drafts.proofs.Seeing.{grew_none, grew_wide, grew_on, tree_seen, good_fine}
 use Rattle.drafts.proofs.Turning.{bind_at, bind_stop}
-use Rattle.walks.specs.Walks.{Graft, graft_of}
-use Rattle.walks.specs.Outcomes.{Comes, Grafts, fair_told, meant, graft_in}
+use Rattle.walks.specs.Walks.{graft_of}
+use Rattle.walks.specs.Outcomes.{Comes, Grafts}
 
 module _ {K : Type 0} where
   abbrev pub built_in : Draft K → Side K → Built K

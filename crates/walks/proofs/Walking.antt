@@ -1,5 +1,5 @@
 -- The exits of the walk's functions.
-use Rattle.std.proofs.Common.{◌≡◌, ℕ, zero, suc, ◌+◌, ◌-◌, ◌*◌, ◌≤◌, List, [], ◌∷◌, ◌++◌, take, Some, None, Ok, Err, Option, Result, sym, refl, ap, ◌∙◌, subst, arith}
+use Rattle.std.proofs.Common.{◌≡◌, ℕ, zero, suc, ◌+◌, ◌*◌, ◌≤◌, List, [], ◌∷◌, ◌++◌, take, Some, None, Ok, Err, Result, sym, refl, ap, ◌∙◌, arith}
 use Rattle.store.specs.declared.node.Node.{Node}
 use Rattle.store.specs.declared.node.Region.{Region}
 use Rattle.store.specs.declared.fault.StoreFault.{StoreFault}
@@ -11,15 +11,15 @@ use Rattle.drafts.specs.declared.link.Numbered.{Numbered}
 use Rattle.drafts.specs.declared.link.Side.{Side}
 use Rattle.drafts.specs.declared.link.Side.TheVariants.{Empty}
 use Rattle.drafts.specs.declared.draft.Draft.{Draft}
-use Rattle.drafts.specs.Grown.{Grown, kept, Seen, Built, bind, tree, seen, joined, balanced}
-use Rattle.drafts.specs.Drafts.{grown, tree_of, Fine, gone_of, Grew, Good, seen_of, link_of, Makes, Joins}
+use Rattle.drafts.specs.Grown.{kept, Seen, Built, bind, tree, seen, joined, balanced}
+use Rattle.drafts.specs.Drafts.{grown, tree_of, gone_of, Grew, Good, seen_of, link_of, Makes, Joins}
 use Rattle.drafts.proofs.Seeing.{fine_old}
 use Rattle.drafts.proofs.Turning.{bind_at, bind_stop, makes_wide, makes_read, makes_unread, makes_joined}
 use Rattle.walks.specs.declared.walk.Edge.{Edge}
 use Rattle.walks.specs.declared.walk.Edge.TheVariants.{Cut, Grow}
 use Rattle.walks.specs.Walks.{Graft, Walked, numbered, sprout, graft_of, walked_as, edge_end, edge_over, edge_at, walked, merged, grown_by, parted}
-use Rattle.walks.specs.Outcomes.{next_down, topped, copied, graft_in, walked_in, Comes, Grafts, Walks}
-use Rattle.walks.proofs.Stepping.{built_in, from_makes, to_makes, comes_wide, comes_as, comes_ok, comes_refused, comes_after, comes_read, comes_unread, comes_then, comes_stop, comes_linked, grew_left}
+use Rattle.walks.specs.Outcomes.{next_down, topped, copied, walked_in, Comes, Grafts, Walks}
+use Rattle.walks.proofs.Stepping.{built_in, from_makes, to_makes, comes_wide, comes_as, comes_ok, comes_refused, comes_after, comes_read, comes_unread, comes_then, comes_stop, comes_linked}
 
 bind_on : {A B C E : Type 0} (m : Result A E) (f : A → Result B E) (g : B → Result C E) → bind (bind m f) g ≡ bind m (λ a. bind (f a) g)
 bind_on (Ok a) f g = refl

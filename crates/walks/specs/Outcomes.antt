@@ -1,5 +1,5 @@
 -- What a function of the walk makes in the draft, against what a definition says.
-use Rattle.std.specs.Prelude.{◌≡◌, ℕ, zero, suc, List, Some, None, Ok, Err, Option, Result}
+use Rattle.std.specs.Prelude.{◌≡◌, ℕ, zero, suc, List, None, Ok, Err, Option, Result}
 use Rattle.store.specs.declared.node.Node.{Node}
 use Rattle.store.specs.declared.node.Region.{Region}
 use Rattle.store.specs.declared.fault.StoreFault.{StoreFault}

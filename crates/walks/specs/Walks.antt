@@ -1,6 +1,6 @@
 -- The copying walk down a left edge, and what drop and split build by it. It is one walk: drop cuts the lowest node of the edge off,
 -- split gives it a new left side.
-use Rattle.std.specs.Prelude.{ℕ, zero, suc, List, [], ◌∷◌, ◌++◌, Some, None, Ok, Err, Option, Result}
+use Rattle.std.specs.Prelude.{ℕ, zero, suc, List, [], ◌∷◌, ◌++◌, Some, None, Ok, Option, Result}
 use Rattle.store.specs.declared.node.Node.{Node}
 use Rattle.store.specs.declared.node.Region.{Region}
 use Rattle.store.specs.declared.fault.StoreFault.{StoreFault}
