@@ -8,7 +8,7 @@ use Rattle.store.specs.Fits.{ShutFree}
 use Rattle.store.proofs.Insides.{numbered, answered, answered_is}
 use Rattle.trees.specs.Trees.{Tree, leaf, node, count}
 use Rattle.trees.specs.Rotations.{Label, kept as stays, new}
-use Rattle.trees.specs.Paths.{times, inside, MadeAs, new_at}
+use Rattle.trees.specs.Paths.{times, MadeAs, new_at}
 use Rattle.trees.proofs.Numbers.{made_weight}
 use Rattle.drafts.specs.declared.link.Numbered.{Numbered}
 use Rattle.drafts.specs.Grown.{Grown, kept, built}

@@ -4,7 +4,7 @@ use Rattle.std.proofs.lemmas.Bool.{cases_eq, ne_eqb}
 use Rattle.store.specs.declared.node.Node.{Node}
 use Rattle.store.specs.declared.node.Region.{Region}
 use Rattle.store.specs.Cells.{readable, cell_at, mark_of}
-use Rattle.trees.specs.Trees.{Tree, node}
+use Rattle.trees.specs.Trees.{Tree}
 use Rattle.trees.specs.Rotations.{Label}
 use Rattle.trees.specs.Edits.{Frame, labels, plug}
 use Rattle.trees.specs.Paths.{inside}

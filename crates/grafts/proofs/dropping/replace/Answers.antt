@@ -4,8 +4,8 @@ use Rattle.drafts.proofs.Seeing.{fine_old}
 use Rattle.grafts.proofs.Replacing.{side_fine, left_empty, right_empty, both_stopped, both_merged}
 use Rattle.grafts.proofs.dropping.replace.Goals as goal
 
-pub returns-in_err-side : goal.returns-in_err-side
-returns-in_err-side g c =
+pub returns-in_err-side-in-Some-Some : goal.returns-in_err-side-in-Some-Some
+returns-in_err-side-in-Some-Some g c =
     let p = err_from_is_err_and c.from_residual.result c.from_residual.ensures.1 in
     let m = c.in_err-side.ensures in
     let r = both_stopped (g.S.Store.cells c.args.store.now) c.args.p.now c.in-Some-Some.field-0-0 c.in-Some-Some.field-0-1 c.merge.new.draft c.in_err-side.field-0.0 _ c.from_residual.result
@@ -30,8 +30,8 @@ returns-in-Some-None g c =
       few = (omega arith, omega arith);
     }
 
-pub returns-in_ok-side : goal.returns-in_ok-side
-returns-in_ok-side g c =
+pub returns-in_ok-side-in-Some-Some : goal.returns-in_ok-side-in-Some-Some
+returns-in_ok-side-in-Some-Some g c =
     let m = c.in_ok-side.ensures in
     record {
       value = both_merged (g.S.Store.cells c.args.store.now) c.args.p.now c.in-Some-Some.field-0-0 c.in-Some-Some.field-0-1 c.merge.new.draft c.in_ok-side.side c.link_to.result
