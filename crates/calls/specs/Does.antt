@@ -1,6 +1,5 @@
 -- What each call of a catalogue answers and leaves, told by the definitions that the contracts of the edits and the sessions cite.
-use Rattle.std.specs.Prelude.{◌≡◌, ℕ, Bool, true, false, cond, List, [], ◌∷◌, map, reverse, length, replicate, Some, None, Ok, Err, Option, Result, nat_lt, slice_index_or}
-use Rattle.store.specs.Cells.{Cell}
+use Rattle.std.specs.Prelude.{◌≡◌, ℕ, Bool, true, false, cond, List, [], map, reverse, length, replicate, Some, None, Ok, Err, Option, Result, nat_lt, slice_index_or}
 use Rattle.store.specs.Nodes.{region}
 use Rattle.store.specs.declared.node.Region.{Region}
 use Rattle.search.specs.Searches.{less_by}

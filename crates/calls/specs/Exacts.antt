@@ -1,5 +1,5 @@
 -- That the calls do exactly what the rules say, in the parts in which it is shown.
-use Rattle.std.specs.Prelude.{◌≡◌, ℕ, ◌≤◌, Bool, true, false, List, [], ◌∷◌, reverse, length, Some, None, Ok, Err, Option, Result}
+use Rattle.std.specs.Prelude.{◌≡◌, ℕ, ◌≤◌, List, reverse, length, Some, None, Ok, Err, Option, Result}
 use Rattle.store.specs.Fits.{FitCells}
 use Rattle.store.specs.Nodes.{region}
 use Rattle.store.specs.declared.node.Region.{Region}

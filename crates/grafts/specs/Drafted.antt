@@ -7,9 +7,8 @@ use Rattle.drafts.specs.declared.link.Numbered.{Numbered}
 use Rattle.drafts.specs.declared.draft.Draft.{Draft}
 use Rattle.drafts.specs.Drafts.{tree_of, Fine, gone_of}
 use Rattle.search.specs.declared.free.Found.{Found}
-use Rattle.search.specs.Frees.{Finds, found_of, left_of, Chosen}
+use Rattle.search.specs.Frees.{left_of, Chosen}
 use Rattle.search.specs.Searches.{Way}
-use Rattle.commits.specs.Commits.{AllInside, news, GoneInside}
 use Rattle.walks.specs.Walks.{Graft}
 use Rattle.edits.specs.declared.fault.Refusal.{Refusal}
 use Rattle.grafts.specs.Grafts.{free_for, Held}

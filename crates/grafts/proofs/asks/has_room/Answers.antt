@@ -1,4 +1,4 @@
-use Rattle.std.proofs.Common.{◌≡◌, ◌-◌, length, Err, ap, ◌∙◌, arith}
+use Rattle.std.proofs.Common.{◌-◌, Err, ap, ◌∙◌}
 use Rattle.std.proofs.lemmas.Result.{err_from_is_err_and}
 use Rattle.store.proofs.Insides.{count_is}
 use Rattle.grafts.proofs.Asking.{room_unread, room_full, room_left}

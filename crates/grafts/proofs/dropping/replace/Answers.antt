@@ -7,8 +7,8 @@ use Rattle.grafts.proofs.dropping.replace.Goals as goal
 pub returns-in_err-side-in-Some-Some : goal.returns-in_err-side-in-Some-Some
 returns-in_err-side-in-Some-Some g c =
     let p = err_from_is_err_and c.from_residual.result c.from_residual.ensures.1 in
-    let m = c.in_err-side.ensures in
-    let r = both_stopped (g.S.Store.cells c.args.store.now) c.args.p.now c.in-Some-Some.field-0-0 c.in-Some-Some.field-0-1 c.merge.new.draft c.in_err-side.field-0.0 _ c.from_residual.result
+    let m = c.in_err-side-in-Some-Some.ensures in
+    let r = both_stopped (g.S.Store.cells c.args.store.now) c.args.p.now c.in-Some-Some.field-0-0 c.in-Some-Some.field-0-1 c.merge.new.draft c.in_err-side-in-Some-Some.field-0.0 _ c.from_residual.result
     c.in-Some-Some.ensures c.in-Some-Some.ensures' m.value p.1 p.2 in
     record { value = r.0; fine = r.1; few = m.few }
 
@@ -32,10 +32,10 @@ returns-in-Some-None g c =
 
 pub returns-in_ok-side-in-Some-Some : goal.returns-in_ok-side-in-Some-Some
 returns-in_ok-side-in-Some-Some g c =
-    let m = c.in_ok-side.ensures in
+    let m = c.in_ok-side-in-Some-Some.ensures in
     record {
-      value = both_merged (g.S.Store.cells c.args.store.now) c.args.p.now c.in-Some-Some.field-0-0 c.in-Some-Some.field-0-1 c.merge.new.draft c.in_ok-side.side c.link_to.result
+      value = both_merged (g.S.Store.cells c.args.store.now) c.args.p.now c.in-Some-Some.field-0-0 c.in-Some-Some.field-0-1 c.merge.new.draft c.in_ok-side-in-Some-Some.side c.link_to.result
           c.in-Some-Some.ensures c.in-Some-Some.ensures' m.value m.good c.link_to.ensures;
-      fine = side_fine c.merge.new.draft c.in_ok-side.side c.link_to.result m.good c.link_to.ensures;
+      fine = side_fine c.merge.new.draft c.in_ok-side-in-Some-Some.side c.link_to.result m.good c.link_to.ensures;
       few = m.few;
     }

@@ -87,6 +87,7 @@ finish-requires g c =
     let many : news (tree_of c.part.new.draft c.link_to-top.result) ≤ length (left_of c.in_ok-found.found) = omega (arith, s.few, f.many) in
     let inside = chosen_inside cs _ f.chosen in
     let gone = s.gone in
+    let raw = c.requires-raw in
     search rules
 
 pub returns : goal.returns
