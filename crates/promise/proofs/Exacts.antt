@@ -1,5 +1,5 @@
 -- Every call is exact, if what is asked first, the calls of sessions and the edits are.
-use Rattle.std.proofs.Common.{◌≡◌, ℕ, ◌≤◌, List, [], reverse, length, Some, None, Ok, Err, Option, Result, sym, refl, ap, ◌∙◌, subst, inl, arith}
+use Rattle.std.proofs.Common.{◌≡◌, ℕ, ◌≤◌, List, reverse, length, Some, None, Ok, Err, Option, Result, sym, refl, ap, ◌∙◌, subst, inl, arith}
 use mathlib.Core.List.{reverse-reverse}
 use Rattle.store.specs.Fits.{FitCells}
 use Rattle.store.specs.Cells.{cell_at}

@@ -6,7 +6,7 @@ use Rattle.store.specs.Nodes.{plain}
 use Rattle.store.specs.Cells.{shut, readable, cell_at}
 use Rattle.store.specs.Fits.{InRange, FitCells}
 use Rattle.sessions.specs.Writings.{nothing_written, CellAfter, Rewritten}
-use Rattle.sessions.specs.Making.{can_make, made_mark, every_node, making}
+use Rattle.sessions.specs.Making.{can_make, made_mark, every_node}
 use Rattle.sessions.proofs.Sweeping.{within, next_cell}
 use Rattle.runs.specs.Calls.{Kind}
 use Rattle.runs.specs.States.{Cells, Fresh, AllFresh, fresh_seats}
