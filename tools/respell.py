@@ -13,12 +13,12 @@ import re
 import sys
 
 NAME = r"[A-Za-zℕℤ◌][\w'◌ℕℤ-]*"
-TOKEN = re.compile(r"(?<![\w'ℕℤ-])" + r"[A-Za-z][\w'ℕℤ]*(?:-[\w'ℕℤ]+)+(?![\w'ℕℤ-])|(?<![\w'-])orderBytes(?![\w'-])|[A-Za-z][\w'ℕℤ]*-(?=[\s:)}])")
+TOKEN = re.compile(r"(?<![\w'ℕℤ-])" + r"[A-Za-z][\w'ℕℤ]*(?:-[\w'ℕℤ]+)+(?![\w'ℕℤ-])|(?<![\w'-])(?:orderBytes|Goes_on|Found_at|true_T|T_true)(?![\w'-])|[A-Za-z][\w'ℕℤ]*-(?=[\s:)}])")
 MODIFIER = r"(?:(?:pub|abbrev|unfoldable|opaque|private) )*"
 SIGNATURE = re.compile(r"^(\s*)(" + MODIFIER + r")(" + NAME + r") :(?= |$)(.*)$")
 RECORD = re.compile(r"^\s*" + MODIFIER + r"(record|data) (" + NAME + r")(?=[ :]|$)")
 IMPORT = re.compile(r"use ([\w.'-]+)\.\{([^}]*)\}")
-FIXED = {"orderBytes": "order_bytes"}
+FIXED = {"orderBytes": "order_bytes", "Goes_on": "GoesOn", "Found_at": "FoundAt", "true_T": "fact_of_true", "T_true": "true_of_fact"}
 # constructors, and names under which a file imports another
 ALSO = """to-right to-left Well-made Edit-refusal weight-of walk-finds sprout-of split-edit put-edit drop-edit advance-edit Session-row double-of
 Single-of steps-more of-records of-bytes has-stepped To-step To-open To-close Session-state Session-does Session-call Not-a-session Moved-on
@@ -59,7 +59,7 @@ def own_names(root):
         for line in read(path).split("\n"):
             m = RECORD.match(line)
             if m:
-                (own if "-" in m.group(2) else plain).add(m.group(2))
+                (own if "-" in m.group(2) or m.group(2) in FIXED else plain).add(m.group(2))
                 continue
             m = SIGNATURE.match(line)
             if not m or m.group(3) in ("let",):

@@ -15,7 +15,7 @@ use Rattle.sessions.specs.declared.lookup.State.TheVariants.{Closed as IsClosed,
 use Rattle.sessions.specs.declared.lookup.Call.{Call as SessionCall}
 use Rattle.sessions.specs.declared.lookup.Call.TheVariants.{Open as ToOpen, Step as ToStep, Close as ToClose}
 use Rattle.sessions.specs.declared.lookup.Told.{Told}
-use Rattle.sessions.specs.declared.lookup.Told.TheVariants.{Opened as HasOpened, On as Goes_on, Nothing as FoundNone, Found as FoundOne, Ended}
+use Rattle.sessions.specs.declared.lookup.Told.TheVariants.{Opened as HasOpened, On as GoesOn, Nothing as FoundNone, Found as FoundOne, Ended}
 use Rattle.sessions.specs.declared.fault.SessionFault.{SessionFault}
 use Rattle.sessions.specs.declared.fault.SessionFault.TheVariants.{NoSession as NotASession, HasLookup as HasOne, NoLookup as HasNone, Lookup as InLookup}
 use Rattle.sessions.specs.Ways.{way_of}
@@ -86,7 +86,7 @@ module _ {K F : Type 0} where
 
   abbrev pub told_answer : Told K → Answer K F
   told_answer HasOpened = Opened
-  told_answer (Goes_on n) = On n
+  told_answer (GoesOn n) = On n
   told_answer (FoundNone n) = Nothing n
   told_answer (FoundOne x n) = Found x n
   told_answer Ended = Closed

@@ -11,7 +11,7 @@ use Rattle.journal.specs.KeyKinds.{key_byte, key_width, key_kinds, key_kind}
 use Rattle.journal.specs.RecordKinds.{kind_byte, record_kinds, record_kind, body_width}
 use Rattle.journal.specs.Readings.{Reading, fails, reads, record_of, from_kind, reading, from_key_kind}
 use Rattle.journal.specs.Entries.{Entry, entry_kind, entry_body, entries_bytes, Fits, AllFit, filled, fault_of, entries_of}
-use Rattle.journal.specs.Laws.{Goes_on, Accounted, ReadWasWritten}
+use Rattle.journal.specs.Laws.{GoesOn, Accounted, ReadWasWritten}
 use Rattle.keys.proofs.Numbers.{number_lt, bytes_number}
 use Rattle.journal.proofs.Entries.{key_back, kind_back, number_front, number_past}
 
@@ -142,7 +142,7 @@ body_again keys Counts place log bs h s l = refl
 pub record Spelled (keys : KeyKind) (log : List ℕ) (place : ℕ) (bs : List ℕ) (r : Reading) (rest : List ℕ) : Type 0 where
   pub fits : AllFit (key_width keys) (entries_of keys log r)
   pub same : bs ≡ entries_bytes (entries_of keys log r) ++ rest
-  pub on : Goes_on keys (place + length (entries_bytes (entries_of keys log r))) rest (fault_of r)
+  pub on : GoesOn keys (place + length (entries_bytes (entries_of keys log r))) rest (fault_of r)
 
 -- a record, and then what was written after its body
 record_first : (keys : KeyKind) (log : List ℕ) (place : ℕ) (b : ℕ) (bs : List ℕ) (k : RecordKind) (r : Reading) (rest : List ℕ) →
@@ -163,7 +163,7 @@ record_first keys log place b bs k r rest s h e l after =
     record {
       fits = (fits_again keys k (place + 1) log bs h s l, after.fits);
       same = ap (λ c. c ∷ bs) first ∙ ap (λ p. kind_byte (entry_kind x) ∷ p) others;
-      on = subst (λ n. Goes_on keys n rest (fault_of r)) to after.on;
+      on = subst (λ n. GoesOn keys n rest (fault_of r)) to after.on;
     }
 
 -- at a kind byte, where what follows a record's body is known to have been written
@@ -209,7 +209,7 @@ by_header b bs s (Some keys) e =
       record {
         all_fit = t.fits;
         same_bytes = ap (λ c. c ∷ bs) (has_byte key_byte key_kinds b keys e) ∙ ap (λ p. key_byte keys ∷ p) t.same;
-        goes_on = subst (λ n. Goes_on keys n found.0 (fault_of (reading keys 1 0 bs))) (one-add (length (entries_bytes es))) t.on;
+        goes_on = subst (λ n. GoesOn keys n found.0 (fault_of (reading keys 1 0 bs))) (one-add (length (entries_bytes es))) t.on;
       },
     )
 

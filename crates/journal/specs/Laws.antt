@@ -29,16 +29,16 @@ CutFirst keys [] = ⊥
 CutFirst keys (b ∷ bs) = (k : RecordKind) × ((b ≡ kind_byte k) × (length bs < body_width keys k))
 
 -- how a log goes on from a place after its entries, by the fault that its reading ends in
-abbrev pub Goes_on : KeyKind → ℕ → List ℕ → Option LogFault → Type 0
-Goes_on keys place rest None = rest ≡ []
-Goes_on keys place rest (Some (Unknown byte)) = (byte ≡ place) × UnknownFirst rest
-Goes_on keys place rest (Some (Cut byte)) = (byte ≡ place) × CutFirst keys rest
+abbrev pub GoesOn : KeyKind → ℕ → List ℕ → Option LogFault → Type 0
+GoesOn keys place rest None = rest ≡ []
+GoesOn keys place rest (Some (Unknown byte)) = (byte ≡ place) × UnknownFirst rest
+GoesOn keys place rest (Some (Cut byte)) = (byte ≡ place) × CutFirst keys rest
 
 -- what is read was written: the log is the writing of the entries read, then nothing, or what the fault says at that very place
 pub record Written (keys : KeyKind) (bs : List ℕ) (r : Reading) (rest : List ℕ) : Type 0 where
   pub all_fit : AllFit (key_width keys) (entries_of keys bs r)
   pub same_bytes : bs ≡ encode keys (entries_of keys bs r) ++ rest
-  pub goes_on : Goes_on keys (length (encode keys (entries_of keys bs r))) rest (fault_of r)
+  pub goes_on : GoesOn keys (length (encode keys (entries_of keys bs r))) rest (fault_of r)
 
 -- a log whose first byte cannot be read: there is none, or it stands for no kind of keys
 abbrev pub NoHeader : List ℕ → LogFault → Type 0

@@ -8,7 +8,7 @@ use Rattle.trees.specs.Trees.{Turn, Tree, leaf, node, path, found}
 use Rattle.trees.specs.Paths.{times, On, In, Distinct, beyond, Has, KeepsPath, KeepsOrder, KeepsRegions}
 use Rattle.trees.proofs.Ancestors.{on_inside, in_has, times_append, after_beyond, beyond_before}
 use Rattle.runs.specs.States.{Cells, InPool, Spells}
-use Rattle.lookups.specs.Ways.{Walk, KeptNode, Waits, HoldsOn, WillTell, GoingAt, Found_at}
+use Rattle.lookups.specs.Ways.{Walk, KeptNode, Waits, HoldsOn, WillTell, GoingAt, FoundAt}
 use Rattle.lookups.proofs.Numbers.{in_or_out, on_either, on_first, Around, around, BeginsIn, parted}
 use Rattle.lookups.proofs.Walks.{spelled_walk, walk_from, walk_kept, walk_join}
 
@@ -83,13 +83,13 @@ module _ {K : Type 0} (Held Held' : ℕ → Type 0) (cs ds : Cells K) (t u : Tre
 
   -- a node at which a lookup has found a region
   module _ (regions : KeepsRegions t u) (pending pending' : List ℕ) (root root' : ℕ) (spelled : Spells cs pending root t) (spelled' : Spells ds pending' root' u) where
-    pub found_carried : (q : ℕ) (x : Region K) → Found_at Held cs t q x → Found_at Held' ds u q x
+    pub found_carried : (q : ℕ) (x : Region K) → FoundAt Held cs t q x → FoundAt Held' ds u q x
     found_carried q x f = by_place f.stands
       where
-        kept : KeptNode cs ds q → In q u ⊎ Waits Held' u q → Found_at Held' ds u q x
+        kept : KeptNode cs ds q → In q u ⊎ Waits Held' u q → FoundAt Held' ds u q x
         kept k p = let n = k f.there f.can_be_read in record { there = n.0; can_be_read = n.1; told = n.2.same_region ∙ f.told; stands = p }
 
-        stays : In q t → In q u → Found_at Held' ds u q x
+        stays : In q t → In q u → FoundAt Held' ds u q x
         stays i j =
             let h = in_has q u j in
             let now = spelled_node ds pending' root' u q h.0 spelled' h.1 in
@@ -104,7 +104,7 @@ module _ {K : Type 0} (Held Held' : ℕ → Type 0) (cs ds : Cells K) (t u : Tre
               stands = inl j;
             }
 
-        by_place : In q t ⊎ Waits Held t q → Found_at Held' ds u q x
+        by_place : In q t ⊎ Waits Held t q → FoundAt Held' ds u q x
         by_place (inl i) = elim (in_or_out q u) [ inl j ↦ stays i j | inr o ↦ kept (change.leaving q i o).1 (inr (leave q i o)) ]
         by_place (inr w) = kept (change.waiting q w).1 (inr (stay_waiting q w))
 

@@ -14,7 +14,7 @@ use Rattle.runs.specs.States.{State, Cells}
 use Rattle.runs.specs.Effects.{TreeAfter, Done}
 use Rattle.runs.specs.Runs.{Turn, history, state}
 use Rattle.runs.proofs.Links.{leads_in, in_leads}
-use Rattle.lookups.specs.Ways.{KeptNode, Waits, HoldsOn, GoingAt, Found_at}
+use Rattle.lookups.specs.Ways.{KeptNode, Waits, HoldsOn, GoingAt, FoundAt}
 use Rattle.lookups.specs.Throughout.{scene_after, RestKept, CallKept, TreeSteps}
 use Rattle.lookups.proofs.Carries.{path_same, order_same, regions_same, tree_stays, carried, found_carried}
 use Rattle.lookups.proofs.Moments.{history_length, left_now, LeftSince, still_left, SetGave, gave_later, gives_now}
@@ -114,8 +114,8 @@ module _ {K F : Type 0} (kd : Kind K F) (z : State (Cells K)) where
               (λ q w. (still_left z t ts since q w.held, as_it_was q w.held (u.same_cells q)))
 
       pub found_on :
-          (q : ℕ) (x : Region K) → Found_at (LeftSince z ts since) (state z ts).memory (whole p) q x →
-          Found_at (LeftSince z (t ∷ ts) since) t.after.memory (whole p') q x
+          (q : ℕ) (x : Region K) → FoundAt (LeftSince z ts since) (state z ts).memory (whole p) q x →
+          FoundAt (LeftSince z (t ∷ ts) since) t.after.memory (whole p') q x
       found_on =
           found_carried (LeftSince z ts since) (LeftSince z (t ∷ ts) since) (state z ts).memory t.after.memory (whole p) (whole p') holds_on keeps_regions
           (state z ts).pending t.after.pending (state z ts).root t.after.root rest.tree_stands.spelled rest'.tree_stands.spelled

@@ -12,7 +12,7 @@ use Rattle.runs.specs.States.{State, Cells, Row, row, closed, row_of, Spells}
 use Rattle.runs.specs.Effects.{StepTells}
 use Rattle.runs.specs.Runs.{Turn, history, state}
 use Rattle.runs.specs.Promise.{TrueAt}
-use Rattle.lookups.specs.Ways.{GoingAt, Found_at, AfterStep}
+use Rattle.lookups.specs.Ways.{GoingAt, FoundAt, AfterStep}
 use Rattle.lookups.specs.Throughout.{RestKept, CallKept, RestThroughout}
 use Rattle.lookups.proofs.Goings.{opens}
 use Rattle.lookups.proofs.Steppings.{stepped}
@@ -37,7 +37,7 @@ module _ {K F : Type 0} (kd : Kind K F) where
   GoesAt z ts p since k = GoingAt (LeftSince z ts since) (SetGave kd (history ts) since k) (seek (regions kd) k) (state z ts).memory (whole p)
 
   abbrev pub HasFound : State (Cells K) → List (Turn (Cells K) K F) → Place ℕ (Region K) → ℕ → ℕ → Region K → Type 0
-  HasFound z ts p since = Found_at (LeftSince z ts since) (state z ts).memory (whole p)
+  HasFound z ts p since = FoundAt (LeftSince z ts since) (state z ts).memory (whole p)
 
   -- THE INVARIANT of the lookup l of session s, after the calls ts, with the tree of p
 

@@ -11,7 +11,7 @@ use Rattle.runs.specs.declared.call.Answer.{Answer}
 use Rattle.runs.specs.Calls.{Kind, regions}
 use Rattle.runs.specs.States.{Cells, Row, pool, InPool}
 use Rattle.runs.specs.Effects.{Onward, Steps, no_place, finds, ends, goes_on}
-use Rattle.lookups.specs.Ways.{Walk, no_node, finds as walk_finds, onward, Waits, WillTell, GoingAt, Found_at, AfterStep}
+use Rattle.lookups.specs.Ways.{Walk, no_node, finds as walk_finds, onward, Waits, WillTell, GoingAt, FoundAt, AfterStep}
 use Rattle.lookups.proofs.Numbers.{on_either, on_first, on_cons, at_most}
 use Rattle.lookups.proofs.Carries.{was_given}
 
@@ -83,10 +83,10 @@ module _ {K : Type 0} (Held : ℕ → Type 0) (Gave : Option (Region K) → Type
   stands : (q : ℕ) → On q (going.gone ++ going.ahead) → In q t ⊎ Waits Held t q
   stands q h = elim (on_either q going.gone going.ahead h) [ inl a ↦ inr (going.gone_wait q a) | inr a ↦ inl (ahead_in q a) ]
 
-  found_here : (v : Node K) → 1 ≤ p → cell_at cs p ≡ readable v → Found_at Held cs t p (region_of v)
+  found_here : (v : Node K) → 1 ≤ p → cell_at cs p ≡ readable v → FoundAt Held cs t p (region_of v)
   found_here v i c = record { there = v; can_be_read = c; told = refl; stands = stands p (begins i).on_it }
 
-  pub stands_at : 1 ≤ p → (x : Region K) × Found_at Held cs t p x
+  pub stands_at : 1 ≤ p → (x : Region K) × FoundAt Held cs t p x
   stands_at i = (region_of (begins i).there, found_here (begins i).there i (begins i).can_be_read)
 
   -- every node that it has met or will meet is in the tree or held, and there are no more than the pool has

@@ -8,7 +8,7 @@ use Rattle.trees.specs.Paths.{In, Distinct}
 use Rattle.trees.proofs.Spells.{set_finds}
 use Rattle.runs.specs.Calls.{Kind, regions}
 use Rattle.runs.specs.States.{State, Cells, InPool}
-use Rattle.lookups.specs.Ways.{Waits, Found_at}
+use Rattle.lookups.specs.Ways.{Waits, FoundAt}
 use Rattle.lookups.specs.Theorems.{Given, Moment, Opens, EditCarries, OthersCarry, StepCarries, StepsEnd, EditKeepsFound, OthersKeepFound}
 use Rattle.lookups.proofs.Goings.{opens}
 use Rattle.lookups.proofs.Carries.{path_same, order_same, regions_same, tree_stays, carried, found_carried, spelled_in_pool}
@@ -62,7 +62,7 @@ module _ {K F : Type 0} (kd : Kind K F) where
       by_way q (inl i) = spelled_in_pool z.memory z.pending z.root (whole p) q tree.spelled i
       by_way q (inr w) = in_pool q w.held
 
-      by_link : (l : ℕ) → l ≡ link → (link ≡ 0) ⊎ ((x : Region K) × Found_at (λ n. T (held n)) z.memory (whole p) link x)
+      by_link : (l : ℕ) → l ≡ link → (link ≡ 0) ⊎ ((x : Region K) × FoundAt (λ n. T (held n)) z.memory (whole p) link x)
       by_link zero e = inl (sym e)
       by_link (suc l) e = inr (stands_at _ _ _ z.memory (whole p) link seen going (omega arith))
 

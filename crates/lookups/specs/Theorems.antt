@@ -10,7 +10,7 @@ use Rattle.runs.specs.declared.call.Answer.{Answer}
 use Rattle.runs.specs.Calls.{Kind, regions}
 use Rattle.runs.specs.States.{State, Cells, Row, pool, InPool, Spells, TreeAt}
 use Rattle.runs.specs.Effects.{Steps}
-use Rattle.lookups.specs.Ways.{Walk, KeptNode, Waits, HoldsOn, GoingAt, Found_at, AfterStep}
+use Rattle.lookups.specs.Ways.{Walk, KeptNode, Waits, HoldsOn, GoingAt, FoundAt, AfterStep}
 
 -- A WALK THROUGH A TREE THAT CELLS SPELL is the search's path in it, and tells what the search finds; so it is from each node of the
 -- path on; and no node is on the path twice.
@@ -82,7 +82,7 @@ module _ {K F : Type 0} (kd : Kind K F) where
   -- and is in the tree or held.
   pub record Ends (held : ℕ → Bool) (z : State (Cells K)) (p : Place ℕ (Region K)) (link : ℕ) (seen : List ℕ) : Type 0 where
     pub fewer : length seen < pool z.memory
-    pub stands : (link ≡ 0) ⊎ ((x : Region K) × Found_at (λ n. T (held n)) z.memory (whole p) link x)
+    pub stands : (link ≡ 0) ⊎ ((x : Region K) × FoundAt (λ n. T (held n)) z.memory (whole p) link x)
 
   abbrev pub StepsEnd : Type 0
   StepsEnd =
@@ -95,10 +95,10 @@ module _ {K F : Type 0} (kd : Kind K F) where
   EditKeepsFound =
       (held held' : ℕ → Bool) (e : Edit K (Region K)) (z y : State (Cells K)) (p p' : Place ℕ (Region K)) (q : ℕ) (x : Region K) →
       TreeAt z p → StepsWell (regions kd) e p p' → TreeAt y p' → EditHoldsOn held held' z y p p' →
-      Found_at (λ n. T (held n)) z.memory (whole p) q x → Found_at (λ n. T (held' n)) y.memory (whole p') q x
+      FoundAt (λ n. T (held n)) z.memory (whole p) q x → FoundAt (λ n. T (held' n)) y.memory (whole p') q x
 
   abbrev pub OthersKeepFound : Type 0
   OthersKeepFound =
       (held held' : ℕ → Bool) (z y : State (Cells K)) (p p' : Place ℕ (Region K)) (q : ℕ) (x : Region K) →
       TreeAt z p → TreeAt y p' → whole p' ≡ whole p → KeepsWaiting held held' z y p →
-      Found_at (λ n. T (held n)) z.memory (whole p) q x → Found_at (λ n. T (held' n)) y.memory (whole p') q x
+      FoundAt (λ n. T (held n)) z.memory (whole p) q x → FoundAt (λ n. T (held' n)) y.memory (whole p') q x

@@ -74,7 +74,7 @@ module _ {K : Type 0} (Held : ℕ → Type 0) (Gave : Option (Region K) → Type
     pub at_node : (1 ≤ p) ⊎ (seen ≡ [])
 
 -- A LOOKUP THAT HAS FOUND x at the node p
-pub record Found_at {K : Type 0} (Held : ℕ → Type 0) (cs : Cells K) (t : Tree ℕ (Region K)) (p : ℕ) (x : Region K) : Type 0 where
+pub record FoundAt {K : Type 0} (Held : ℕ → Type 0) (cs : Cells K) (t : Tree ℕ (Region K)) (p : ℕ) (x : Region K) : Type 0 where
   pub there : Node K
   pub can_be_read : cell_at cs p ≡ readable there
   pub told : region_of there ≡ x
@@ -84,7 +84,7 @@ pub record Found_at {K : Type 0} (Held : ℕ → Type 0) (cs : Cells K) (t : Tre
 -- node at p is behind it. No other answer comes.
 abbrev pub AfterStep :
     {K F : Type 0} → (ℕ → Type 0) → (Option (Region K) → Type 0) → (Region K → Turn) → Cells K → Tree ℕ (Region K) → ℕ → List ℕ → Answer K F → Row → Type 0
-AfterStep Held Gave turn cs t p seen (Found x n) w = Gave (Some x) × Found_at Held cs t w.place x
+AfterStep Held Gave turn cs t p seen (Found x n) w = Gave (Some x) × FoundAt Held cs t w.place x
 AfterStep Held Gave turn cs t p seen (Nothing n) w = Gave None × (w.place ≡ 0)
 AfterStep Held Gave turn cs t p seen (MovedOn n) w = GoingAt Held Gave turn cs t w.place (p ∷ seen)
 AfterStep Held Gave turn cs t p seen (Pending n) w = ⊥

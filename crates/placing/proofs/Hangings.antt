@@ -25,7 +25,7 @@ use Rattle.runs.specs.Teeth.{Among}
 use Rattle.lifting.specs.Lifts.{leaves, leaves as written, keeps}
 use Rattle.placing.specs.Placings.{lean_of, Joins, Drafted, CommittedWell}
 use Rattle.placing.proofs.Writings.{one_same, none_other, Holds, holds_readable, holds_mark, ApartWrites, unwritten, all_held, AllHeld, held_front, held_back, written_append, all_read}
-use Rattle.placing.proofs.Spellings.{some_or_none, true_T, T_true, fewer, same_node, free_spells, spells_pool, not_seats, weaken, Stays}
+use Rattle.placing.proofs.Spellings.{some_or_none, fact_of_true, true_of_fact, fewer, same_node, free_spells, spells_pool, not_seats, weaken, Stays}
 use Rattle.placing.proofs.Layings.{chosen_once, taken, placed_used, placed_free, free_keeps, Laid, laid}
 use Rattle.placing.proofs.Frames.{around, plug_inside, label_around, over_path, led}
 
@@ -155,11 +155,11 @@ module _ {K : Type 0} where
       where
         by_where : member m (labels fs) ≡ false → In m s ⊎ T (member m (labels fs)) → member m pending ≡ false
         by_where e (inl i) = absurd (omega (arith, was m))
-        by_where e (inr i) = absurd (both_ways (member m (labels fs)) e (T_true (member m (labels fs)) i))
+        by_where e (inr i) = absurd (both_ways (member m (labels fs)) e (true_of_fact (member m (labels fs)) i))
 
         by_pending : member m (labels fs) ≡ false → (member m pending ≡ true) ⊎ (member m pending ≡ false) → member m pending ≡ false
         by_pending e (inr f) = f
-        by_pending e (inl f) = by_where e (d.pending_where m (true_T (member m pending) f))
+        by_pending e (inl f) = by_where e (d.pending_where m (fact_of_true (member m pending) f))
 
     there : (p : Numbered K) → Among p gone → Holds ds p.number (leaving sessions p.node)
     there p a = held_among ds sessions gone held.left_there p a
@@ -256,7 +256,7 @@ module _ {K : Type 0} where
             let h = cell v (subst (λ (i : ℕ). cell_at cs i ≡ readable v) e c) in
             ap (λ (i : Node K). i.size) (same_node v' _ (cell_at ds n) (subst (λ (i : ℕ). cell_at ds i ≡ readable v') e c') h) ∙ link_size (lean_of sd) (placed g ns).top v
         by_same (inr far) =
-            let h = (is_above m (label_around m path (T_true (member m (labels path)) on)) far).cell in
+            let h = (is_above m (label_around m path (true_of_fact (member m (labels path)) on)) far).cell in
             ap (λ (i : Node K). i.size) (same_node v' v (cell_at ds m) c' (h ∙ c))
 
     under : CommittedWell cs ds root sessions path s t gone

@@ -16,7 +16,7 @@ use Rattle.runs.specs.States.{Cells, Free, Spells, member}
 use Rattle.lifting.specs.Lifts.{leaves as written}
 use Rattle.placing.specs.Placings.{with_size, ResizedWell}
 use Rattle.placing.proofs.Writings.{one_same, none_other, holds_readable, ApartWrites, unwritten, all_held}
-use Rattle.placing.proofs.Spellings.{some_or_none, T_true, fewer, same_node, free_spells, spells_pool, not_seats, Stays, spells_stays}
+use Rattle.placing.proofs.Spellings.{some_or_none, true_of_fact, fewer, same_node, free_spells, spells_pool, not_seats, Stays, spells_stays}
 use Rattle.placing.proofs.Frames.{around, plug_inside, label_around, near, over_node, over_path}
 
 -- in a tree that stands none is new
@@ -80,7 +80,7 @@ module _ {K : Type 0} (cs ds : Cells K) (root : ℕ) (fs : List (Frame ℕ (Regi
 
   size : (m : ℕ) (v₁ v₂ : Node K) → T (member m (labels fs)) → cell_at cs m ≡ readable v₁ → cell_at ds m ≡ readable v₂ → v₂.size ≡ v₁.size
   size m v₁ v₂ on c₁ c₂ =
-      let h = label_around m fs (T_true (member m (labels fs)) on) in
+      let h = label_around m fs (true_of_fact (member m (labels fs)) on) in
       let e = others m (λ e. omega (arith, is m, distinct m, one_same m n e)) in
       ap (λ (i : Node K). i.size) (same_node v₂ v₁ (cell_at ds m) c₂ (e ∙ c₁))
 

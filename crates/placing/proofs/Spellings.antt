@@ -14,12 +14,12 @@ pub some_or_none : (k : ℕ) → (k ≡ 0) ⊎ (1 ≤ k)
 some_or_none zero = inl refl
 some_or_none (suc k) = inr (omega arith)
 
-pub true_T : (b : Bool) → b ≡ true → T b
-true_T b e = subst T (sym e) tt
+pub fact_of_true : (b : Bool) → b ≡ true → T b
+fact_of_true b e = subst T (sym e) tt
 
-pub T_true : (b : Bool) → T b → b ≡ true
-T_true true h = refl
-T_true false h = absurd h
+pub true_of_fact : (b : Bool) → T b → b ≡ true
+true_of_fact true h = refl
+true_of_fact false h = absurd h
 
 -- what holds where a number is counted holds where fewer are
 pub fewer : {P : Type 0} (a b : ℕ) → a ≤ b → (b ≡ 0) ⊎ P → (a ≡ 0) ⊎ P

@@ -111,7 +111,7 @@ module _ {K F : Type 0} (kd : Kind K F) where
   -- Every call can be made at every moment, so that there are runs of every list of calls. It is said of memories that are
   -- cells: which memory a store passes to is the store's own affair, but one with these cells there is.
   module _ (Makes : Cells K → State (Cells K) → Type 0) (Does : State (Cells K) → Call K → Answer K F → State (Cells K) → Type 0) where
-    pub record Goes_on : Type 0 where
+    pub record GoesOn : Type 0 where
       pub made : (cs : Cells K) → (z : State (Cells K)) × Makes cs z
       pub called :
           (z : State (Cells K)) (ts : List (Turn (Cells K) K F)) → Run FitCells Makes Does z ts → (c : Call K) →
