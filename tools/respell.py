@@ -21,7 +21,7 @@ IMPORT = re.compile(r"use ([\w.'-]+)\.\{([^}]*)\}")
 FIXED = {"orderBytes": "order_bytes", "Goes_on": "GoesOn", "Found_at": "FoundAt", "true_T": "fact_of_true", "T_true": "true_of_fact"}
 # constructors, and names under which a file imports another
 ALSO = """to-right to-left Well-made Edit-refusal weight-of walk-finds sprout-of split-edit put-edit drop-edit advance-edit Session-row double-of
-Single-of steps-more of-records of-bytes has-stepped To-step To-open To-close Session-state Session-does Session-call Not-a-session Moved-on
+Single-of steps-more of-records of-bytes has-stepped release-of parted-tree To-step To-open To-close Session-state Session-does Session-call Not-a-session Moved-on
 Low-again Is-going Is-closed Is-answered In-search In-rotation In-lookup In-copy Has-opened Has-none Has-one Found-one Found-none Edit-doing
 By-store""".split()
 

@@ -8,6 +8,7 @@ use crate::line::{Line, Mark};
 use crate::printable::Printable;
 use crate::totals::Totals;
 use std::alloc::{AllocError, Global};
+use std::fmt;
 use store::{FREE, Store};
 
 // Adds the line of node n, if it has one, and counts its mark.
@@ -39,15 +40,15 @@ fn dump_cell<K: Printable, S: Store<Key = K>>(
 
 // What a store holds: a line for each node that is not free, with its number, then a line that counts the nodes by mark.
 // The only error is want of memory.
-pub fn dump<K: Printable, S: Store<Key = K>>(heap: Global, store: &S) -> Result<String, AllocError>
+pub fn dump<K: Printable, S: Store<Key = K>>(heap: Global, store: &S) -> Result<String, fmt::Error>
     ensures { IfOk result (λ s. string_bytes s ≡ dumped K.Printable.held (S.Store.cells store.now)) }
 {
     let mut out = String::new(heap);
     let mut totals = Totals::new();
     let count = store.count();
     for i in 0..count {
-        dump_cell(&mut out, &mut totals, store, i + 1)?;
+        dump_cell(&mut out, &mut totals, store, i + 1).map_err(fmt::Error::from)?;
     }
-    writeln!(out, "{count} nodes: {totals}")?;
+    writeln!(out, "{count} nodes: {totals}").map_err(fmt::Error::from)?;
     Ok(out)
 }

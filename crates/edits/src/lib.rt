@@ -4,5 +4,7 @@
 mod fault;
 mod pending;
 
+pub use commits::Joint;
 pub use fault::{Doing, Refusal, TreeFault, put_to};
 pub use pending::{Plan, Weighed, advance};
+pub use search::{Found, Path, Sought, descend, find_free};

@@ -5,14 +5,13 @@ use anyhow::anyhow;
 use dumping::dump;
 use keys::{Decimal, Text, Whole};
 use packed::ByteStore;
-use std::alloc::AllocError;
-use std::fs;
+use std::{fmt, fs};
 use store::{Guard, Store};
 
 fn print_text(
     rt: &HostRuntime,
     title: &str,
-    text: Result<String, AllocError>,
+    text: Result<String, fmt::Error>,
 ) -> anyhow::Result<()> {
     println!(rt; "== {title}")?;
     match text {

@@ -5,7 +5,7 @@ use Rattle.store.specs.Cells.{Cell, cell_at, readable}
 use Rattle.store.specs.Nodes.{region_of}
 use Rattle.trees.specs.Trees.{Tree, leaf, node, count, height}
 use Rattle.trees.specs.Paths.{In, Distinct}
-use Rattle.trees.specs.Edits.{Frame, labels, plug, standing, least, rebuilt, dropped, parted as parted-tree}
+use Rattle.trees.specs.Edits.{Frame, labels, plug, standing, least, rebuilt, dropped, parted as parted_tree}
 use Rattle.trees.specs.Rotations.{Label, new, balance}
 use Rattle.drafts.specs.declared.link.Numbered.{Numbered}
 use Rattle.drafts.specs.Grown.{Grown, kept, Seen, seen, tree, weight, heavy_side, balanced}
@@ -97,4 +97,4 @@ module _ (K : Type 0) where
       (cs : List (Cell K)) (p : Numbered K) (o : Label) (l : Tree Label (Region K)) (x : Region K) (r : Tree Label (Region K))
       (lower upper : Region K → Region K) → Stands cs (kept p.number) (node o l x r) → cell_at cs p.number ≡ readable p.node →
       height (node o l x r) ≤ 27 → count (node o l x r) < 65535 →
-      Lifted cs (λ j. keeps j (node o l x r)) [] (parted cs p (lower x) (upper x)) (parted-tree lower upper (node o l x r))
+      Lifted cs (λ j. keeps j (node o l x r)) [] (parted cs p (lower x) (upper x)) (parted_tree lower upper (node o l x r))

@@ -9,6 +9,7 @@ use crate::call::Call;
 use crate::tally::Tally;
 use journal::Reader;
 use std::alloc::{AllocError, Global};
+use std::fmt;
 
 // Adds a line for each record, then a closing line, or that of the log's fault.
 fn list_records(out: &mut String, mut reader: Reader, log: &[u8]) -> Result<(), AllocError>
@@ -34,13 +35,13 @@ fn list_records(out: &mut String, mut reader: Reader, log: &[u8]) -> Result<(), 
 
 // What a log asks for: a line a record with its number, then a line that counts them by kind.
 // A fault of the log has a line of its own, which is then the last. The only error is want of memory.
-pub fn list(heap: Global, log: &[u8]) -> Result<String, AllocError>
+pub fn list(heap: Global, log: &[u8]) -> Result<String, fmt::Error>
     ensures { IfOk result (λ s. string_bytes s ≡ listed log.now) }
 {
     let mut out = String::new(heap);
     match Reader::new(log) {
-        Ok(reader) => list_records(&mut out, reader, log)?,
-        Err(fault) => writeln!(out, "{fault}")?,
+        Ok(reader) => list_records(&mut out, reader, log).map_err(fmt::Error::from)?,
+        Err(fault) => writeln!(out, "{fault}").map_err(fmt::Error::from)?,
     }
     Ok(out)
 }

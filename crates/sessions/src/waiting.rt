@@ -1,7 +1,7 @@
 // Nodes that have left the tree and wait for sessions, and their release.
 ghost use Rattle.std.specs.Prelude.{◌≡◌, ◌<◌, None, Ok};
 ghost use Rattle.sessions.specs.Waiting.{bit, without_bit, waiting_for, waiting_at, closed_waiting, all_read};
-ghost use Rattle.sessions.specs.Waiting.{release as release-of};
+ghost use Rattle.sessions.specs.Waiting.{release as release_of};
 ghost use Rattle.sessions.specs.Writings.{Rewritten};
 
 use crate::pool::SEATS;
@@ -60,7 +60,7 @@ pub fn read_waiting<S: Store>(store: &S) -> Result<(), StoreFault>
 pub fn release<S: Store>(store: &mut S, session: u8) -> Result<(), StoreFault>
     requires { (closed_waiting (S.Store.cells store.old) ≡ None) × (session < 32) }
     ensures value { result ≡ Ok tt }
-    ensures cells { Rewritten (release-of session (S.Store.cells store.old)) (S.Store.cells store.old) (S.Store.cells store.new) }
+    ensures cells { Rewritten (release_of session (S.Store.cells store.old)) (S.Store.cells store.old) (S.Store.cells store.new) }
     ensures keeps { S.Store.fit store.old → S.Store.fit store.new }
 {
     let count = store.count();
