@@ -48,7 +48,7 @@ module _ {K : Type 0} where
   abbrev pub ByRule : List (Cell K) → List ℕ → ℕ → (tl : Tree Label (Region K)) → Region K → (tr made : Tree Label (Region K)) → Sized K → Joint K → Told K → Option Lean → Type 0
   ByRule cs path n tl x tr made w j told None =
       (made ≡ node (stays n) tl x tr) ×
-      ((root sessions : ℕ) (ns : List ℕ) → told root sessions ns ≡ Ok (record { path = path; root = root; takes = 0; writes = w.node ∷ [] }))
+      ((root sessions : ℕ) (ns : List ℕ) → told root sessions ns ≡ Ok (record { path = path; root = root; writes = w.node ∷ [] }))
   ByRule cs path n tl x tr made w j told (Some s) =
       (l : Lifted cs (λ i. keeps i (node (stays n) tl x tr)) (w.node ∷ []) (rotated cs (w.node ∷ []) s x w.left w.right) made) ×
       ((root sessions : ℕ) (ns : List ℕ) → free_count cs < 3 → told root sessions ns ≡ Err Crowded) ×

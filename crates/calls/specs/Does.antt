@@ -7,7 +7,7 @@ use Rattle.edits.specs.declared.fault.Doing.{Doing as EditDoing}
 use Rattle.edits.specs.declared.fault.Doing.TheVariants.{Search as InSearch, Copy as InCopy, Rotation as InRotation}
 use Rattle.edits.specs.declared.fault.Refusal.{Refusal as EditRefusal}
 use Rattle.edits.specs.declared.fault.Refusal.TheVariants.{Busy, Resting, Overlaps as Overlapping, Missing, SameAsLow as LowAgain, Full as Brimful, Crowded, Refused as ByStore}
-use Rattle.edits.specs.Calls.{Change, Edits, advanced}
+use Rattle.edits.specs.Calls.{Change, EditsInside, advanced}
 use Rattle.grafts.specs.Grafts.{same_by, put_told, drop_told, split_told}
 use Rattle.sessions.specs.declared.lookup.Row.{Row as SessionRow}
 use Rattle.sessions.specs.declared.lookup.State.{State as SessionState}
@@ -127,10 +127,10 @@ module _ {K F : Type 0} (kd : Kind K F) where
 
   -- WHAT IT DOES, if it asks for nothing that is not there
 
-  -- an edit: what was told of it is so for some free nodes
+  -- an edit: what was told of it is so for some free nodes, and every write falls on a node
   pub record EditDoes (told : List ℕ → Result (Change K) EditRefusal) (x : State (Cells K)) (a : Answer K F) (y : State (Cells K)) : Type 0 where
     pub result : Result ℕ EditRefusal
-    pub edits : Edits x.memory y.memory (reverse x.pending) (reverse y.pending) x.root y.root result told
+    pub edits : EditsInside x.memory y.memory (reverse x.pending) (reverse y.pending) x.root y.root result told
     pub answers : a ≡ edit_answer result
     pub rows : y.rows ≡ x.rows
 

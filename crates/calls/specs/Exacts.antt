@@ -1,11 +1,11 @@
 -- That the calls do exactly what the rules say, in the parts in which it is shown.
-use Rattle.std.specs.Prelude.{◌≡◌, ℕ, ◌≤◌, List, reverse, length, Some, None, Ok, Err, Option, Result}
+use Rattle.std.specs.Prelude.{◌≡◌, ℕ, List, reverse, length, Some, None, Ok, Err, Option, Result}
 use Rattle.store.specs.Fits.{FitCells}
 use Rattle.store.specs.Nodes.{region}
 use Rattle.store.specs.declared.node.Region.{Region}
 use Rattle.trees.specs.Edits.{Place}
 use Rattle.search.specs.Frees.{Chosen}
-use Rattle.commits.specs.Commits.{Writes}
+use Rattle.commits.specs.Commits.{Writes, GoneInside}
 use Rattle.edits.specs.declared.fault.Refusal.{Refusal as EditRefusal}
 use Rattle.edits.specs.Calls.{Change}
 use Rattle.runs.specs.declared.call.Call.{Call}
@@ -75,6 +75,6 @@ module _ {K F : Type 0} (kd : Kind K F) where
   EditsAsMade =
       (z : State (Cells K)) (ts : List (Turn (Cells K) K F)) (p : Place ℕ (Region K)) (c : Call K) (told : List ℕ → Result (Change K) EditRefusal)
       (ns : List ℕ) (ch : Change K) (y : State (Cells K)) →
-      Inv kd z ts p → edit_told (state z ts) c ≡ Some told → asked kd (state z ts) c ≡ None → Chosen (state z ts).memory ns → told ns ≡ Ok ch → ch.takes ≤ length ns →
+      Inv kd z ts p → edit_told (state z ts) c ≡ Some told → asked kd (state z ts) c ≡ None → Chosen (state z ts).memory ns → told ns ≡ Ok ch → GoneInside (length (state z ts).memory) ch.writes →
       Writes (state z ts).memory ch.writes y.memory → y.root ≡ ch.root → y.pending ≡ reverse ch.path → y.rows ≡ (state z ts).rows →
       FitCells y.memory → EditMade z ts p c ch y

@@ -1,2 +1,3 @@
 pub mod Committing
 pub mod Bounds
+pub mod Fallings

@@ -20,7 +20,7 @@ use Rattle.search.specs.declared.free.Found.{Found}
 use Rattle.edits.specs.Refusals.{during, refused_in}
 use Rattle.search.specs.Frees.{Chosen, Finds, free_count, found_of, left_of}
 use Rattle.commits.specs.Commits.{Writes, AllInside, news, placed, root_after, committed, GoneInside, JointInside}
-use Rattle.edits.specs.Calls.{Sized, Turned, sized, turned_at, turned_change, rotation, Enough, TurnEnds, Turns}
+use Rattle.edits.specs.Calls.{Sized, Turned, sized, turned_at, turned_change, rotation, TurnEnds, Within, TurnsInside}
 use Rattle.commits.proofs.Bounds.{chosen_inside}
 use Rattle.edits.proofs.Weighing.{turned_bound}
 
@@ -40,16 +40,18 @@ pub enough : {K : Type 0} (cs : List (Cell K)) (ns : List ℕ) (count : ℕ) →
 enough cs ns count f e h = omega (arith, f.many)
 
 module _ {K : Type 0} (cs : List (Cell K)) (path : List ℕ) (root sessions : ℕ) (w : Sized K) (s : Lean) where
-  pub turn_crowded : (ns : List ℕ) (count : ℕ) → Finds cs 3 ns → count ≡ length ns → count < 3 → Turns cs cs root root (Err Crowded) (λ ns. rotation cs path root sessions ns w s)
+  pub turn_crowded : (ns : List ℕ) (count : ℕ) → Finds cs 3 ns → count ≡ length ns → count < 3 → TurnsInside cs cs root root (Err Crowded) (λ ns. rotation cs path root sessions ns w s)
   unfolding rotation
   turn_crowded ns count f e h =
       let l : free_count cs < 3 = omega (arith, f.many) in
       record {
-        numbers = [];
-        chosen = tt;
-        enough = subst (λ b. Enough [] (cond b (Err Crowded) (bind (refused_in Rotation (turned_at cs path w s)) (λ t. Ok (turned_change path root sessions [] t))))) (sym (lt-ltb (free_count cs) 3 l)) tt;
-        ends = subst (λ b. TurnEnds cs cs root root (Err Crowded) (cond b (Err Crowded) (bind (refused_in Rotation (turned_at cs path w s)) (λ t. Ok (turned_change path root sessions [] t)))))
-            (sym (lt-ltb (free_count cs) 3 l)) (refl, refl, refl);
+        turns = record {
+          numbers = [];
+          chosen = tt;
+          ends = subst (λ b. TurnEnds cs cs root root (Err Crowded) (cond b (Err Crowded) (bind (refused_in Rotation (turned_at cs path w s)) (λ t. Ok (turned_change path root sessions [] t)))))
+              (sym (lt-ltb (free_count cs) 3 l)) (refl, refl, refl);
+        };
+        inside = subst (λ b. Within (length cs) (cond b (Err Crowded) (bind (refused_in Rotation (turned_at cs path w s)) (λ t. Ok (turned_change path root sessions [] t))))) (sym (lt-ltb (free_count cs) 3 l)) tt;
       }
 
   told : (ns : List ℕ) (x : Result (Turned K) StoreFault) → 3 ≤ free_count cs → x ≡ turned_at cs path w s →
@@ -60,28 +62,28 @@ module _ {K : Type 0} (cs : List (Cell K)) (path : List ℕ) (root sessions : �
       ∙ ap (λ b. cond b (Err Crowded) (bind (refused_in Rotation (turned_at cs path w s)) (λ t. Ok (turned_change path root sessions ns t)))) (sym (le-ltb (free_count cs) 3 h))
 
   pub turn_refused : (f : StoreFault) (e : TreeFault) (y : Refusal) (r : Result (Unit {0}) Refusal) → 3 ≤ free_count cs → Err f ≡ turned_at cs path w s → r ≡ Err y → y ≡ Refused e →
-      e ≡ record { doing = Rotation; fault = f } → Turns cs cs root root r (λ ns. rotation cs path root sessions ns w s)
+      e ≡ record { doing = Rotation; fault = f } → TurnsInside cs cs root root r (λ ns. rotation cs path root sessions ns w s)
   unfolding refused_in
   turn_refused f e y r h t p q z = record {
-    numbers = [];
-    chosen = tt;
-    enough = subst (Enough []) (told [] (Err f) h t) tt;
-    ends = subst (TurnEnds cs cs root root r) (told [] (Err f) h t) (p ∙ ap Err (q ∙ ap Refused z), refl, refl);
+    turns = record { numbers = []; chosen = tt; ends = subst (TurnEnds cs cs root root r) (told [] (Err f) h t) (p ∙ ap Err (q ∙ ap Refused z), refl, refl) };
+    inside = subst (Within (length cs)) (told [] (Err f) h t) tt;
   }
 
   pub turn_done : (ds : List (Cell K)) (d : Draft K) (l : Link) (top : Side K) (j : Joint K) (root' : ℕ) (ns : List ℕ) → 3 ≤ free_count cs → Chosen cs ns →
-      Ok (record { built = record { top = seen_of d top; gone = gone_of d }; joint = j }) ≡ turned_at cs path w s → l ≡ link_of top → Good d top → news (tree_of d l) ≤ length ns →
+      Ok (record { built = record { top = seen_of d top; gone = gone_of d }; joint = j }) ≡ turned_at cs path w s → l ≡ link_of top → Good d top → GoneInside (length cs) (committed j (placed (tree_of d l) ns) sessions (gone_of d)) →
       root' ≡ root_after j (placed (tree_of d l) ns).top root → Writes cs (committed j (placed (tree_of d l) ns) sessions (gone_of d)) ds →
-      Turns cs ds root root' (Ok tt) (λ ns. rotation cs path root sessions ns w s)
+      TurnsInside cs ds root root' (Ok tt) (λ ns. rotation cs path root sessions ns w s)
   unfolding refused_in
   turn_done ds d l top j root' ns h c t a b m p q =
       let e : tree_of d l ≡ tree (seen_of d top) = ap (tree_of d) a ∙ tree_seen d top b in
       record {
-        numbers = ns;
-        chosen = c;
-        enough = subst (Enough ns) (told ns _ h t) (subst (λ x. news x ≤ length ns) e m);
-        ends = subst (TurnEnds cs ds root root' (Ok tt)) (told ns _ h t)
-            (refl, p ∙ ap (λ x. root_after j (placed x ns).top root) e, subst (λ x. Writes cs (committed j (placed x ns) sessions (gone_of d)) ds) e q);
+        turns = record {
+          numbers = ns;
+          chosen = c;
+          ends = subst (TurnEnds cs ds root root' (Ok tt)) (told ns _ h t)
+              (refl, p ∙ ap (λ x. root_after j (placed x ns).top root) e, subst (λ x. Writes cs (committed j (placed x ns) sessions (gone_of d)) ds) e q);
+        };
+        inside = subst (Within (length cs)) (told ns _ h t) (subst (λ x. GoneInside (length cs) (committed j (placed x ns) sessions (gone_of d))) e m);
       }
 
 -- what the commit wants

@@ -2,6 +2,7 @@
 use Rattle.std.proofs.Common.{◌≡◌, ℕ, Bool, true, false, cond, ltb, List, [], ◌∷◌, length, Some, None, Ok, Err, Option, Result, sym, refl, ap, ◌∙◌, subst, arith}
 use Rattle.store.specs.declared.fault.StoreFault.{StoreFault}
 use Rattle.store.specs.Cells.{Cell}
+use Rattle.store.specs.Faults.{outside}
 use Rattle.drafts.specs.declared.link.Lean.{Lean}
 use Rattle.drafts.specs.Grown.{bind, weight, heavy_side}
 use Rattle.edits.specs.declared.fault.Doing.TheVariants.{Rotation}
@@ -12,7 +13,7 @@ use Rattle.search.specs.Paths.{lowest, above}
 use Rattle.edits.specs.Refusals.{refused_in}
 use Rattle.search.specs.Frees.{free_count}
 use Rattle.commits.specs.Commits.{Writes}
-use Rattle.edits.specs.Calls.{Sized, Turned, Change, sized, turned_at, turned_change, rotation, treated, lowest_treated, advanced, Enough, Ends, Edits, TurnEnds, Turns}
+use Rattle.edits.specs.Calls.{Sized, Turned, Change, sized, turned_at, turned_change, rotation, treated, lowest_treated, advanced, Ends, TurnEnds, Within, EditsInside, TurnsInside}
 use Rattle.commits.proofs.Bounds.{bind_inv}
 
 module _ {K : Type 0} (cs : List (Cell K)) (path : List ℕ) (root sessions : ℕ) where
@@ -26,29 +27,33 @@ module _ {K : Type 0} (cs : List (Cell K)) (path : List ℕ) (root sessions : �
       ap (λ x. bind (refused_in Rotation x) (λ v. treated cs (above path) root sessions ns v (heavy_side (weight v.left) (weight v.right)))) e
       ∙ ap (lowest_treated cs (above path) root sessions ns) h
 
-  pub ends_resting : None ≡ lowest path → Edits cs cs path path root root (Err Resting) Told
+  pub ends_resting : None ≡ lowest path → EditsInside cs cs path path root root (Err Resting) Told
   unfolding advanced
   ends_resting h = record {
-    numbers = [];
-    chosen = tt;
-    enough = subst (λ o. Enough [] (lowest_treated cs (above path) root sessions [] o)) h tt;
-    ends = subst (λ o. Ends cs cs path path root root (Err Resting) (lowest_treated cs (above path) root sessions [] o)) h (refl, refl, refl, refl);
+    edits = record {
+      numbers = [];
+      chosen = tt;
+      ends = subst (λ o. Ends cs cs path path root root (Err Resting) (lowest_treated cs (above path) root sessions [] o)) h (refl, refl, refl, refl);
+    };
+    inside = subst (λ o. Within (length cs) (lowest_treated cs (above path) root sessions [] o)) h tt;
   }
 
   pub ends_unread : (n : ℕ) (f : StoreFault) (e : TreeFault) (y : Refusal) (r : Result ℕ Refusal) → Some n ≡ lowest path → Err f ≡ sized cs n → r ≡ Err y → y ≡ Refused e →
-      e ≡ record { doing = Rotation; fault = f } → Edits cs cs path path root root r Told
+      e ≡ record { doing = Rotation; fault = f } → EditsInside cs cs path path root root r Told
   unfolding advanced refused_in
   ends_unread n f e y r h i p q z = record {
-    numbers = [];
-    chosen = tt;
-    enough = subst (Enough [])
+    edits = record {
+      numbers = [];
+      chosen = tt;
+      ends = subst (Ends cs cs path path root root r)
+          (ap (λ x. bind (refused_in Rotation x) (λ v. treated cs (above path) root sessions [] v (heavy_side (weight v.left) (weight v.right)))) i
+          ∙ ap (lowest_treated cs (above path) root sessions []) h)
+          (p ∙ ap Err (q ∙ ap Refused z), refl, refl, refl);
+    };
+    inside = subst (Within (length cs))
         (ap (λ x. bind (refused_in Rotation x) (λ v. treated cs (above path) root sessions [] v (heavy_side (weight v.left) (weight v.right)))) i
         ∙ ap (lowest_treated cs (above path) root sessions []) h)
         tt;
-    ends = subst (Ends cs cs path path root root r)
-        (ap (λ x. bind (refused_in Rotation x) (λ v. treated cs (above path) root sessions [] v (heavy_side (weight v.left) (weight v.right)))) i
-        ∙ ap (lowest_treated cs (above path) root sessions []) h)
-        (p ∙ ap Err (q ∙ ap Refused z), refl, refl, refl);
   }
 
   side_told : (ns : List ℕ) (n a b : ℕ) (w : Sized K) (o : Option Lean) → Some n ≡ lowest path → Ok w ≡ sized cs n → o ≡ heavy_side a b → a ≡ weight w.left → b ≡ weight w.right →
@@ -57,12 +62,14 @@ module _ {K : Type 0} (cs : List (Cell K)) (path : List ℕ) (root sessions : �
       ap (treated cs (above path) root sessions ns w) (f ∙ ap (λ x. heavy_side x b) g ∙ ap (λ x. heavy_side (weight w.left) x) i) ∙ told_sized ns n w h e
 
   pub ends_sized : (ds : List (Cell K)) (n a b k : ℕ) (w : Sized K) (path' : List ℕ) → Some n ≡ lowest path → Ok w ≡ sized cs n → None ≡ heavy_side a b → a ≡ weight w.left → b ≡ weight w.right →
-      path' ≡ above path → k ≡ length path' → Writes cs (w.node ∷ []) ds → Edits cs ds path path' root root (Ok k) Told
-  ends_sized ds n a b k w path' h e f g i p q u = record {
-    numbers = [];
-    chosen = tt;
-    enough = subst (Enough []) (side_told [] n a b w None h e f g i) (omega arith);
-    ends = subst (Ends cs ds path path' root root (Ok k)) (side_told [] n a b w None h e f g i) (ap Ok (q ∙ ap length p), p, refl, u);
+      path' ≡ above path → k ≡ length path' → outside w.node.number (length cs) ≡ false → Writes cs (w.node ∷ []) ds → EditsInside cs ds path path' root root (Ok k) Told
+  ends_sized ds n a b k w path' h e f g i p q z u = record {
+    edits = record {
+      numbers = [];
+      chosen = tt;
+      ends = subst (Ends cs ds path path' root root (Ok k)) (side_told [] n a b w None h e f g i) (ap Ok (q ∙ ap length p), p, refl, u);
+    };
+    inside = subst (Within (length cs)) (side_told [] n a b w None h e f g i) (z, tt);
   }
 
   path_by : (path₀ ns : List ℕ) (m : Result (Turned K) Refusal) (b : Bool) (c : Change K) → Ok c ≡ cond b (Err Crowded) (bind m (λ t. Ok (turned_change path₀ root sessions ns t))) → c.path ≡ path₀
@@ -87,25 +94,29 @@ module _ {K : Type 0} (cs : List (Cell K)) (path : List ℕ) (root sessions : �
   settle_err ds root' y (Err f) r e t = let u = t.0 in let q : y ≡ f = cc in (e ∙ ap Err q, refl, t.1, t.2)
 
   pub ends_turned : (ds : List (Cell K)) (n a b k root' : ℕ) (w : Sized K) (path' : List ℕ) (s : Lean) → Some n ≡ lowest path → Ok w ≡ sized cs n → Some s ≡ heavy_side a b →
-      a ≡ weight w.left → b ≡ weight w.right → path' ≡ above path → k ≡ length path' → Turns cs ds root root' (Ok tt) (λ ns. rotation cs path' root sessions ns w s) →
-      Edits cs ds path path' root root' (Ok k) Told
+      a ≡ weight w.left → b ≡ weight w.right → path' ≡ above path → k ≡ length path' → TurnsInside cs ds root root' (Ok tt) (λ ns. rotation cs path' root sessions ns w s) →
+      EditsInside cs ds path path' root root' (Ok k) Told
   ends_turned ds n a b k root' w path' s h e f g i p q t = record {
-    numbers = t.numbers;
-    chosen = t.chosen;
-    enough = subst (Enough t.numbers) (ap (λ z. rotation cs z root sessions t.numbers w s) p ∙ side_told t.numbers n a b w (Some s) h e f g i) t.enough;
-    ends = subst (Ends cs ds path path' root root' (Ok k))
-        (ap (λ z. rotation cs z root sessions t.numbers w s) p ∙ side_told t.numbers n a b w (Some s) h e f g i)
-        (settle_ok ds path' t.numbers root' k w s _ refl q t.ends);
+    edits = record {
+      numbers = t.turns.numbers;
+      chosen = t.turns.chosen;
+      ends = subst (Ends cs ds path path' root root' (Ok k))
+          (ap (λ z. rotation cs z root sessions t.turns.numbers w s) p ∙ side_told t.turns.numbers n a b w (Some s) h e f g i)
+          (settle_ok ds path' t.turns.numbers root' k w s _ refl q t.turns.ends);
+    };
+    inside = subst (Within (length cs)) (ap (λ z. rotation cs z root sessions t.turns.numbers w s) p ∙ side_told t.turns.numbers n a b w (Some s) h e f g i) t.inside;
   }
 
   pub ends_unturned : (ds : List (Cell K)) (n a b root' : ℕ) (w : Sized K) (path' : List ℕ) (s : Lean) (y y' : Refusal) (r : Result ℕ Refusal) → Some n ≡ lowest path → Ok w ≡ sized cs n → Some s ≡ heavy_side a b →
-      a ≡ weight w.left → b ≡ weight w.right → path' ≡ above path → Turns cs ds root root' (Err y) (λ ns. rotation cs path' root sessions ns w s) → r ≡ Err y' → y' ≡ y →
-      Edits cs ds path path root root' r Told
+      a ≡ weight w.left → b ≡ weight w.right → path' ≡ above path → TurnsInside cs ds root root' (Err y) (λ ns. rotation cs path' root sessions ns w s) → r ≡ Err y' → y' ≡ y →
+      EditsInside cs ds path path root root' r Told
   ends_unturned ds n a b root' w path' s y y' r h e f g i p t u v = record {
-    numbers = t.numbers;
-    chosen = t.chosen;
-    enough = subst (Enough t.numbers) (ap (λ z. rotation cs z root sessions t.numbers w s) p ∙ side_told t.numbers n a b w (Some s) h e f g i) t.enough;
-    ends = subst (Ends cs ds path path root root' r)
-        (ap (λ z. rotation cs z root sessions t.numbers w s) p ∙ side_told t.numbers n a b w (Some s) h e f g i)
-        (settle_err ds root' y _ r (u ∙ ap Err v) t.ends);
+    edits = record {
+      numbers = t.turns.numbers;
+      chosen = t.turns.chosen;
+      ends = subst (Ends cs ds path path root root' r)
+          (ap (λ z. rotation cs z root sessions t.turns.numbers w s) p ∙ side_told t.turns.numbers n a b w (Some s) h e f g i)
+          (settle_err ds root' y _ r (u ∙ ap Err v) t.turns.ends);
+    };
+    inside = subst (Within (length cs)) (ap (λ z. rotation cs z root sessions t.turns.numbers w s) p ∙ side_told t.turns.numbers n a b w (Some s) h e f g i) t.inside;
   }

@@ -1,5 +1,5 @@
 -- What the edits answer and leave, as functions of the memory, the root link and the pending path.
-use Rattle.std.specs.Prelude.{◌≡◌, ℕ, ◌≤◌, cond, List, [], ◌∷◌, length, Some, None, Ok, Err, Option, Result, ◌==◌, nat_lt}
+use Rattle.std.specs.Prelude.{◌≡◌, ℕ, cond, List, [], ◌∷◌, length, Some, None, Ok, Err, Option, Result, ◌==◌, nat_lt}
 use Rattle.store.specs.Nodes.{region_of}
 use Rattle.store.specs.declared.node.Node.{Node}
 use Rattle.store.specs.declared.fault.StoreFault.{StoreFault}
@@ -20,7 +20,7 @@ use Rattle.edits.specs.declared.pending.Plan.{Plan}
 use Rattle.search.specs.Paths.{lowest, above}
 use Rattle.edits.specs.Refusals.{refused_in}
 use Rattle.search.specs.Frees.{Chosen, free_count}
-use Rattle.commits.specs.Commits.{Writes, news, placed, root_after, committed}
+use Rattle.commits.specs.Commits.{Writes, placed, root_after, committed, GoneInside}
 
 -- a node with its sides, and its size set from them
 pub record Sized (K : Type 0) : Type 0 where
@@ -33,11 +33,10 @@ pub record Turned (K : Type 0) : Type 0 where
   pub built : Built K
   pub joint : Joint K
 
--- what an accepted edit makes: the pending path, the root link, how many new nodes it takes, and the writes in their order
+-- what an accepted edit makes: the pending path, the root link, and the writes in their order
 pub record Change (K : Type 0) : Type 0 where
   pub path : List ℕ
   pub root : ℕ
-  pub takes : ℕ
   pub writes : List (Numbered K)
 
 module _ {K : Type 0} where
@@ -75,7 +74,7 @@ module _ {K : Type 0} where
   abbrev pub turned_change : List ℕ → ℕ → ℕ → List ℕ → Turned K → Change K
   turned_change path root sessions ns t =
       let p = placed (tree t.built.top) ns in
-      record { path = path; root = root_after t.joint p.top root; takes = news (tree t.built.top); writes = committed t.joint p sessions t.built.gone }
+      record { path = path; root = root_after t.joint p.top root; writes = committed t.joint p sessions t.built.gone }
 
   -- fewer than three free nodes are too few for a rotation
   unfoldable pub rotation : List (Cell K) → List ℕ → ℕ → ℕ → List ℕ → Sized K → Lean → Result (Change K) Refusal
@@ -84,7 +83,7 @@ module _ {K : Type 0} where
       (bind (refused_in Rotation (turned_at cs path w s)) (λ t. Ok (turned_change path root sessions ns t)))
 
   abbrev pub treated : List (Cell K) → List ℕ → ℕ → ℕ → List ℕ → Sized K → Option Lean → Result (Change K) Refusal
-  treated cs path root sessions ns w None = Ok (record { path = path; root = root; takes = 0; writes = w.node ∷ [] })
+  treated cs path root sessions ns w None = Ok (record { path = path; root = root; writes = w.node ∷ [] })
   treated cs path root sessions ns w (Some s) = rotation cs path root sessions ns w s
 
   abbrev pub lowest_treated : List (Cell K) → List ℕ → ℕ → ℕ → List ℕ → Option ℕ → Result (Change K) Refusal
@@ -101,16 +100,10 @@ module _ {K : Type 0} where
   Ends cs ds path path' root root' r (Ok c) = (r ≡ Ok (length c.path)) × (path' ≡ c.path) × (root' ≡ c.root) × Writes cs c.writes ds
   Ends cs ds path path' root root' r (Err e) = (r ≡ Err e) × (path' ≡ path) × (root' ≡ root) × (ds ≡ cs)
 
-  -- there is a number for each new node
-  abbrev pub Enough : List ℕ → Result (Change K) Refusal → Type 0
-  Enough ns (Ok c) = c.takes ≤ length ns
-  Enough ns (Err e) = Unit {0}
-
-  -- the numbers for new nodes are free nodes of the pool, none twice, as many as are taken; which ones, is open
+  -- the numbers for new nodes are free nodes of the pool, none twice; which ones, is open
   pub record Edits (cs ds : List (Cell K)) (path path' : List ℕ) (root root' : ℕ) (r : Result ℕ Refusal) (told : List ℕ → Result (Change K) Refusal) : Type 0 where
     pub numbers : List ℕ
     pub chosen : Chosen cs numbers
-    pub enough : Enough numbers (told numbers)
     pub ends : Ends cs ds path path' root root' r (told numbers)
 
   -- the same of a rotation alone
@@ -121,8 +114,21 @@ module _ {K : Type 0} where
   pub record Turns (cs ds : List (Cell K)) (root root' : ℕ) (r : Result (Unit {0}) Refusal) (told : List ℕ → Result (Change K) Refusal) : Type 0 where
     pub numbers : List ℕ
     pub chosen : Chosen cs numbers
-    pub enough : Enough numbers (told numbers)
     pub ends : TurnEnds cs ds root root' r (told numbers)
+
+  -- every write falls on one of N nodes, so there was a number for each new node
+  abbrev pub Within : ℕ → Result (Change K) Refusal → Type 0
+  Within N (Ok c) = GoneInside N c.writes
+  Within N (Err e) = Unit {0}
+
+  -- an edit, and a rotation, whose every write falls on a node of the store
+  pub record EditsInside (cs ds : List (Cell K)) (path path' : List ℕ) (root root' : ℕ) (r : Result ℕ Refusal) (told : List ℕ → Result (Change K) Refusal) : Type 0 where
+    pub edits : Edits cs ds path path' root root' r told
+    pub inside : Within (length cs) (told edits.numbers)
+
+  pub record TurnsInside (cs ds : List (Cell K)) (root root' : ℕ) (r : Result (Unit {0}) Refusal) (told : List ℕ → Result (Change K) Refusal) : Type 0 where
+    pub turns : Turns cs ds root root' r told
+    pub inside : Within (length cs) (told turns.numbers)
 
   -- inner steps in a draft
   abbrev pub sized_in : Draft K → Result (Weighed K) StoreFault → Result (Sized K) StoreFault

@@ -3,7 +3,7 @@ ghost use Rattle.std.specs.Prelude.{◌≡◌, ℕ, ◌≤◌, [], if◌then◌e
 ghost use Rattle.drafts.specs.declared.link.Lean.TheVariants.{Left, Right};
 ghost use Rattle.drafts.specs.Drafts.{Good, seen_of, gone_of};
 ghost use Rattle.search.specs.Paths.{held};
-ghost use Rattle.edits.specs.Calls.{resized, sized, sized_in, good_in, joint_at, turned_at, turned_in, plan_good, rotation, advanced, Turns, Edits};
+ghost use Rattle.edits.specs.Calls.{resized, sized, sized_in, good_in, joint_at, turned_at, turned_in, plan_good, rotation, advanced, Turns, TurnsInside, Edits, EditsInside};
 
 use crate::fault::{Doing, Refusal, put_to};
 use commits::{Joint, commit};
@@ -130,6 +130,7 @@ fn turn_node<S: Store>(
     requires right { Good draft.old w.now.right }
     requires from { (n : ℕ) × (Ok (record { node = w.now.node; left = seen_of draft.old w.now.left; right = seen_of draft.old w.now.right }) ≡ sized (S.Store.cells store.old) n) }
     ensures turns { Turns (S.Store.cells store.old) (S.Store.cells store.new) root.old root.new result (λ ns. rotation (S.Store.cells store.old) (held path.now) root.old sessions ns (record { node = w.now.node; left = seen_of draft.old w.now.left; right = seen_of draft.old w.now.right }) lean) }
+    ensures inside { TurnsInside (S.Store.cells store.old) (S.Store.cells store.new) root.old root.new result (λ ns. rotation (S.Store.cells store.old) (held path.now) root.old sessions ns (record { node = w.now.node; left = seen_of draft.old w.now.left; right = seen_of draft.old w.now.right }) lean) }
     ensures keeps { S.Store.fit store.old → S.Store.fit store.new }
 {
     let mut found = put_to(Doing::Rotation, find_free(store, *cursor, 3))?;
@@ -157,6 +158,7 @@ pub fn advance<S: Store>(
     sessions: u32,
 ) -> Result<usize, Refusal>
     ensures edits { Edits (S.Store.cells store.old) (S.Store.cells store.new) (held path.old) (held path.new) root.old root.new result (λ ns. advanced (S.Store.cells store.old) (held path.old) root.old sessions ns) }
+    ensures inside { EditsInside (S.Store.cells store.old) (S.Store.cells store.new) (held path.old) (held path.new) root.old root.new result (λ ns. advanced (S.Store.cells store.old) (held path.old) root.old sessions ns) }
     ensures keeps { S.Store.fit store.old → S.Store.fit store.new }
 {
     let Some(n) = path.last() else {

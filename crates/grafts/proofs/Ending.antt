@@ -11,18 +11,19 @@ use Rattle.search.specs.Paths.{lowest}
 use Rattle.search.specs.Searches.{Way, side_for, descended, Reaches}
 use Rattle.commits.specs.declared.writes.Joint.{Joint}
 use Rattle.commits.specs.declared.writes.Joint.TheVariants.{Root, Under}
-use Rattle.commits.specs.Commits.{Writes, news, placed, root_after, committed, JointInside}
+use Rattle.commits.specs.Commits.{Writes, AllInside, news, placed, root_after, committed, GoneInside, JointInside}
 use Rattle.commits.proofs.Bounds.{bind_inv, read_from}
+use Rattle.commits.proofs.Fallings.{committed_inside}
 use Rattle.walks.specs.Walks.{Graft, numbered}
 use Rattle.edits.specs.declared.fault.Doing.TheVariants.{Search, Copy}
 use Rattle.edits.specs.declared.fault.TreeFault.{TreeFault}
 use Rattle.edits.specs.declared.fault.Refusal.{Refusal}
 use Rattle.edits.specs.declared.fault.Refusal.TheVariants.{Refused}
 use Rattle.edits.specs.Refusals.{during, refused_in}
-use Rattle.edits.specs.Calls.{Enough, Ends}
+use Rattle.edits.specs.Calls.{Ends, Within}
 use Rattle.grafts.specs.Grafts.{graft_change, rest_at, way_side, joint_from, joint_for, grafted, begun}
 use Rattle.grafts.specs.Drafted.{Begins}
-use Rattle.grafts.proofs.Asking.{passed_ok, passed_err}
+use Rattle.grafts.proofs.Asking.{passed_ok, passed_err, unpassed}
 
 -- THE WAY DOWN
 
@@ -87,13 +88,16 @@ module _ {K : Type 0} (less : K → K → Bool) (x : Sought K) (cs : List (Cell 
   joint_inside j e = from_inside (lowest way) j e
 
   module _ (root sessions : ℕ) (ns : List ℕ) (g : Graft K) where
-    enough_by : (m : Result (Joint K) Refusal) → news g.side ≤ length ns → Enough ns (bind m (λ j. Ok (graft_change way root sessions ns g j)))
-    enough_by (Ok j) h = h
-    enough_by (Err e) h = tt
+    inside_by :
+        (m : Result (Joint K) Refusal) → m ≡ refused_in Copy (joint_for less x cs way) → news g.side ≤ length ns → AllInside (length cs) ns → GoneInside (length cs) g.gone →
+        Within (length cs) (bind m (λ j. Ok (graft_change way root sessions ns g j)))
+    inside_by (Ok j) e h a b = committed_inside (length cs) j g.side ns sessions g.gone h a (joint_inside j (unpassed Copy (joint_for less x cs way) j e)) b
+    inside_by (Err y) e h a b = tt
 
-    pub graft_enough : news g.side ≤ length ns → Enough ns (grafted less x cs way root sessions ns g)
+    -- every write of it falls on a node of the store
+    pub graft_inside : news g.side ≤ length ns → AllInside (length cs) ns → GoneInside (length cs) g.gone → Within (length cs) (grafted less x cs way root sessions ns g)
     unfolding grafted
-    graft_enough h = enough_by (refused_in Copy (joint_for less x cs way)) h
+    graft_inside h a b = inside_by (refused_in Copy (joint_for less x cs way)) refl h a b
 
     pub graft_stopped : (path : List ℕ) (got : Result (Joint K) StoreFault) (e : TreeFault) (y : Refusal) (r : Result ℕ Refusal) → got ≡ joint_for less x cs way → Err e ≡ during Copy got →
         r ≡ Err y → y ≡ Refused e → Ends cs cs path path root root r (grafted less x cs way root sessions ns g)

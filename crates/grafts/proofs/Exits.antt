@@ -23,7 +23,7 @@ use Rattle.edits.specs.declared.fault.TreeFault.{TreeFault}
 use Rattle.edits.specs.declared.fault.Refusal.{Refusal}
 use Rattle.edits.specs.declared.fault.Refusal.TheVariants.{Refused}
 use Rattle.edits.specs.Refusals.{refused_in}
-use Rattle.edits.specs.Calls.{Change, Enough, Ends, Edits}
+use Rattle.edits.specs.Calls.{Change, Ends, Within, EditsInside}
 use Rattle.grafts.specs.Grafts.{vacant, holder, room_at, free_for, begun, grafted, put_told, Held, held_by, drop_needs, drop_graft, drop_told, apart, lower_of, upper_of, split_told}
 use Rattle.grafts.specs.Drafted.{Begins}
 use Rattle.grafts.proofs.Asking.{unpassed}
@@ -44,12 +44,18 @@ held_number {K} way n v h e = let q : ◌≡◌ {A = Held K} (record { way = way
 
 module _ {K : Type 0} (cs : List (Cell K)) (path : List ℕ) (root : ℕ) where
   -- a refused edit changes nothing
-  pub edits_refused : (told : List ℕ → Result (Change K) Refusal) (e y : Refusal) (r : Result ℕ Refusal) → Err e ≡ told [] → r ≡ Err y → y ≡ e → Edits cs cs path path root root r told
-  edits_refused told e y r h a b = record { numbers = []; chosen = tt; enough = subst (Enough []) h tt; ends = subst (Ends cs cs path path root root r) h (a ∙ ap Err b, refl, refl, refl) }
+  pub edits_refused : (told : List ℕ → Result (Change K) Refusal) (e y : Refusal) (r : Result ℕ Refusal) → Err e ≡ told [] → r ≡ Err y → y ≡ e → EditsInside cs cs path path root root r told
+  edits_refused told e y r h a b = record {
+    edits = record { numbers = []; chosen = tt; ends = subst (Ends cs cs path path root root r) h (a ∙ ap Err b, refl, refl, refl) };
+    inside = subst (Within (length cs)) h tt;
+  }
 
   pub edits_end : (told : List ℕ → Result (Change K) Refusal) (ds : List (Cell K)) (path' : List ℕ) (root' : ℕ) (r : Result ℕ Refusal) (ns : List ℕ) (x : Result (Change K) Refusal) →
-      Chosen cs ns → Enough ns x → x ≡ told ns → Ends cs ds path path' root root' r x → Edits cs ds path path' root root' r told
-  edits_end told ds path' root' r ns x c m h p = record { numbers = ns; chosen = c; enough = subst (Enough ns) h m; ends = subst (Ends cs ds path path' root root' r) h p }
+      Chosen cs ns → Within (length cs) x → x ≡ told ns → Ends cs ds path path' root root' r x → EditsInside cs ds path path' root root' r told
+  edits_end told ds path' root' r ns x c m h p = record {
+    edits = record { numbers = ns; chosen = c; ends = subst (Ends cs ds path path' root root' r) h p };
+    inside = subst (Within (length cs)) h m;
+  }
 
   -- PUT
   module _ (less : K → K → Bool) (sessions : ℕ) (x : Region K) where

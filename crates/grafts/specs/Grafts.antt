@@ -19,7 +19,7 @@ use Rattle.search.specs.Searches.{Way, side_for, descended}
 use Rattle.search.specs.Frees.{free_count}
 use Rattle.commits.specs.declared.writes.Joint.{Joint}
 use Rattle.commits.specs.declared.writes.Joint.TheVariants.{Root, Under}
-use Rattle.commits.specs.Commits.{news, placed, root_after, committed}
+use Rattle.commits.specs.Commits.{placed, root_after, committed}
 use Rattle.walks.specs.Walks.{Graft, graft_of, numbered, sprout, merged, parted}
 use Rattle.edits.specs.declared.fault.Doing.TheVariants.{Search, Copy}
 use Rattle.edits.specs.declared.fault.Refusal.{Refusal}
@@ -104,7 +104,7 @@ module _ {K : Type 0} where
   -- what was drafted takes the place of that link; the nodes of the way are then pending
   abbrev pub graft_change : List ℕ → ℕ → ℕ → List ℕ → Graft K → Joint K → Change K
   graft_change way root sessions ns g j =
-      let p = placed g.side ns in record { path = way; root = root_after j p.top root; takes = news g.side; writes = committed j p sessions g.gone }
+      let p = placed g.side ns in record { path = way; root = root_after j p.top root; writes = committed j p sessions g.gone }
 
   unfoldable pub grafted : (K → K → Bool) → Sought K → List (Cell K) → List ℕ → ℕ → ℕ → List ℕ → Graft K → Result (Change K) Refusal
   grafted less x cs way root sessions ns g =

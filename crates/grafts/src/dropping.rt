@@ -2,7 +2,7 @@
 ghost use Rattle.std.specs.Prelude.{◌≡◌, ◌≤◌};
 ghost use Rattle.search.specs.Paths.{held};
 ghost use Rattle.search.specs.Searches.{less_by};
-ghost use Rattle.edits.specs.Calls.{Edits};
+ghost use Rattle.edits.specs.Calls.{EditsInside};
 ghost use Rattle.grafts.specs.Grafts.{drop_graft, drop_told};
 ghost use Rattle.grafts.specs.Drafted.{graft_in, fine_in};
 
@@ -53,7 +53,7 @@ pub fn drop_region<S: Store>(
     key: S::Key,
     sessions: u32,
 ) -> Result<usize, Refusal>
-    ensures edits { Edits (S.Store.cells store.old) (S.Store.cells store.new) (held path.old) (held path.new) root.old root.new result (drop_told (less_by S.Key.Ordered.fault S.Key.Ordered.order) (S.Store.cells store.old) (held path.old) root.old sessions key) }
+    ensures edits { EditsInside (S.Store.cells store.old) (S.Store.cells store.new) (held path.old) (held path.new) root.old root.new result (drop_told (less_by S.Key.Ordered.fault S.Key.Ordered.order) (S.Store.cells store.old) (held path.old) root.old sessions key) }
     ensures keeps { S.Store.fit store.old → S.Store.fit store.new }
 {
     wipe(draft);

@@ -5,7 +5,7 @@ ghost use Rattle.search.specs.Paths.{held};
 ghost use Rattle.search.specs.Searches.{less_by};
 ghost use Rattle.search.specs.Frees.{left_of};
 ghost use Rattle.commits.specs.Commits.{news, AllInside, GoneInside};
-ghost use Rattle.edits.specs.Calls.{Enough, Ends};
+ghost use Rattle.edits.specs.Calls.{Ends, Within};
 ghost use Rattle.grafts.specs.Grafts.{way_side, joint_for, begun, grafted};
 ghost use Rattle.grafts.specs.Drafted.{Begins};
 
@@ -75,7 +75,7 @@ pub(crate) fn finish<S: Store>(
     requires many { news (tree_of draft.now top) ≤ length (left_of found.old) }
     requires inside { AllInside (length (S.Store.cells store.old)) (left_of found.old) }
     requires gone { GoneInside (length (S.Store.cells store.old)) (gone_of draft.now) }
-    ensures enough { Enough (left_of found.old) (grafted (less_by S.Key.Ordered.fault S.Key.Ordered.order) sought.now (S.Store.cells store.old) (held way.now) root.old sessions (left_of found.old) (record { side = tree_of draft.now top; gone = gone_of draft.now })) }
+    ensures inside { Within (length (S.Store.cells store.old)) (grafted (less_by S.Key.Ordered.fault S.Key.Ordered.order) sought.now (S.Store.cells store.old) (held way.now) root.old sessions (left_of found.old) (record { side = tree_of draft.now top; gone = gone_of draft.now })) }
     ensures ends { Ends (S.Store.cells store.old) (S.Store.cells store.new) (held path.old) (held path.new) root.old root.new result (grafted (less_by S.Key.Ordered.fault S.Key.Ordered.order) sought.now (S.Store.cells store.old) (held way.now) root.old sessions (left_of found.old) (record { side = tree_of draft.now top; gone = gone_of draft.now })) }
     ensures keeps { S.Store.fit store.old → S.Store.fit store.new }
 {

@@ -2,7 +2,7 @@
 ghost use Rattle.std.specs.Prelude.{◌≡◌};
 ghost use Rattle.search.specs.Paths.{held};
 ghost use Rattle.search.specs.Searches.{less_by};
-ghost use Rattle.edits.specs.Calls.{Edits};
+ghost use Rattle.edits.specs.Calls.{EditsInside};
 ghost use Rattle.grafts.specs.Grafts.{put_told};
 
 use crate::asks::{free_nodes, has_room, meets_none};
@@ -22,7 +22,7 @@ pub fn put_region<S: Store>(
     region: Region<S::Key>,
     sessions: u32,
 ) -> Result<usize, Refusal>
-    ensures edits { Edits (S.Store.cells store.old) (S.Store.cells store.new) (held path.old) (held path.new) root.old root.new result (put_told (less_by S.Key.Ordered.fault S.Key.Ordered.order) (S.Store.cells store.old) (held path.old) root.old sessions region) }
+    ensures edits { EditsInside (S.Store.cells store.old) (S.Store.cells store.new) (held path.old) (held path.new) root.old root.new result (put_told (less_by S.Key.Ordered.fault S.Key.Ordered.order) (S.Store.cells store.old) (held path.old) root.old sessions region) }
     ensures keeps { S.Store.fit store.old → S.Store.fit store.new }
 {
     wipe(draft);

@@ -2,7 +2,7 @@
 ghost use Rattle.std.specs.Prelude.{◌≡◌};
 ghost use Rattle.search.specs.Paths.{held};
 ghost use Rattle.search.specs.Searches.{less_by};
-ghost use Rattle.edits.specs.Calls.{Edits};
+ghost use Rattle.edits.specs.Calls.{EditsInside};
 ghost use Rattle.grafts.specs.Grafts.{same_by, lower_of, upper_of, split_told};
 
 use crate::asks::{free_nodes, has_room, past_low};
@@ -48,7 +48,7 @@ pub fn split_region<S: Store>(
     upper: u64,
     sessions: u32,
 ) -> Result<usize, Refusal>
-    ensures edits { Edits (S.Store.cells store.old) (S.Store.cells store.new) (held path.old) (held path.new) root.old root.new result (split_told (less_by S.Key.Ordered.fault S.Key.Ordered.order) (same_by S.Key.Ordered.fault S.Key.Ordered.order) (S.Store.cells store.old) (held path.old) root.old sessions key lower upper) }
+    ensures edits { EditsInside (S.Store.cells store.old) (S.Store.cells store.new) (held path.old) (held path.new) root.old root.new result (split_told (less_by S.Key.Ordered.fault S.Key.Ordered.order) (same_by S.Key.Ordered.fault S.Key.Ordered.order) (S.Store.cells store.old) (held path.old) root.old sessions key lower upper) }
     ensures keeps { S.Store.fit store.old → S.Store.fit store.new }
 {
     wipe(draft);

@@ -1,5 +1,5 @@
 -- Every call is exact, if what is asked first, the calls of sessions and the edits are.
-use Rattle.std.proofs.Common.{◌≡◌, ℕ, ◌≤◌, List, reverse, length, Some, None, Ok, Err, Option, Result, sym, refl, ap, ◌∙◌, subst, inl, arith}
+use Rattle.std.proofs.Common.{◌≡◌, ℕ, List, reverse, length, Some, None, Ok, Err, Option, Result, sym, refl, ap, ◌∙◌, subst, inl, arith}
 use mathlib.Core.List.{reverse-reverse}
 use Rattle.store.specs.Fits.{FitCells}
 use Rattle.store.specs.Cells.{cell_at}
@@ -7,9 +7,9 @@ use Rattle.store.specs.Nodes.{region}
 use Rattle.store.specs.declared.node.Region.{Region}
 use Rattle.trees.specs.Edits.{Place}
 use Rattle.search.specs.Frees.{Chosen}
-use Rattle.commits.specs.Commits.{Writes}
+use Rattle.commits.specs.Commits.{Writes, GoneInside}
 use Rattle.edits.specs.declared.fault.Refusal.{Refusal as EditRefusal}
-use Rattle.edits.specs.Calls.{Enough, Change, Ends}
+use Rattle.edits.specs.Calls.{Within, Change, Ends}
 use Rattle.runs.specs.declared.call.Call.{Call}
 use Rattle.runs.specs.declared.call.Call.TheVariants.{Put, Drop, Split, Advance, Open, Step, Close, Counts}
 use Rattle.runs.specs.declared.call.Refusal.{Refusal}
@@ -52,7 +52,7 @@ module _ {K F : Type 0} (kd : Kind K F) (parts : Parts kd) (z : State (Cells K))
 
     -- no line of the table fits, and it is done
     edit_done :
-        (ns : List ℕ) (ch : Change K) → told ns ≡ Ok ch → Chosen (state z ts).memory ns → ch.takes ≤ length ns → Writes (state z ts).memory ch.writes y.memory →
+        (ns : List ℕ) (ch : Change K) → told ns ≡ Ok ch → Chosen (state z ts).memory ns → GoneInside (length (state z ts).memory) ch.writes → Writes (state z ts).memory ch.writes y.memory →
         y.root ≡ ch.root → y.pending ≡ reverse ch.path → y.rows ≡ (state z ts).rows → FitCells y.memory →
         CallExact kd z ts p c (Pending (length ch.path)) y
     edit_done ns ch t n k m o l w f =
@@ -69,18 +69,18 @@ module _ {K F : Type 0} (kd : Kind K F) (parts : Parts kd) (z : State (Cells K))
         }
 
     edit_exact : (a : Answer K F) → EditDoes kd told (state z ts) a y → FitCells y.memory → CallExact kd z ts p c a y
-    edit_exact a d f = by_told (told d.edits.numbers) refl d.edits.ends
+    edit_exact a d f = by_told (told d.edits.edits.numbers) refl d.edits.edits.ends
       where
         by_told :
-            (r : Result (Change K) EditRefusal) → told d.edits.numbers ≡ r →
+            (r : Result (Change K) EditRefusal) → told d.edits.edits.numbers ≡ r →
             Ends (state z ts).memory y.memory (reverse (state z ts).pending) (reverse y.pending) (state z ts).root y.root d.result r →
             CallExact kd z ts p c a y
         by_told (Err e) t h =
             subst (λ (b : Answer K F). CallExact kd z ts p c b y) (sym (d.answers ∙ ap edit_answer h.0))
-            (edit_refused d.edits.numbers e t h.3 h.2 (same_reversed y.pending (state z ts).pending h.1) d.rows)
+            (edit_refused d.edits.edits.numbers e t h.3 h.2 (same_reversed y.pending (state z ts).pending h.1) d.rows)
         by_told (Ok ch) t h =
             subst (λ (b : Answer K F). CallExact kd z ts p c b y) (sym (d.answers ∙ ap edit_answer h.0))
-            (edit_done d.edits.numbers ch t d.edits.chosen (subst (Enough d.edits.numbers) t d.edits.enough) h.3 h.2 (sym (reverse-reverse y.pending) ∙ ap reverse h.1) d.rows f)
+            (edit_done d.edits.edits.numbers ch t d.edits.edits.chosen (subst (Within (length (state z ts).memory)) t d.edits.inside) h.3 h.2 (sym (reverse-reverse y.pending) ∙ ap reverse h.1) d.rows f)
 
   module _ (kept : LookupsKept kd z ts) where
     acts_exact :

@@ -11,7 +11,9 @@ use Rattle.edits.proofs.Settling.{ends_resting, ends_unread, ends_sized, ends_tu
 use Rattle.edits.proofs.pending.advance.Goals as goal
 
 pub returns-in_default : goal.returns-in_default
-returns-in_default g c = record { edits = ends_resting (g.S.Store.cells c.args.store.now) (held c.args.path.now) c.args.root.now c.args.sessions c.in_default.ensures; keeps = λ h. h }
+returns-in_default g c =
+    let x = ends_resting (g.S.Store.cells c.args.store.now) (held c.args.path.now) c.args.root.now c.args.sessions c.in_default.ensures in
+    record { edits = x.edits; inside = x; keeps = λ h. h }
 
 pub weigh_up-requires : goal.weigh_up-requires
 weigh_up-requires g c =
@@ -22,11 +24,9 @@ pub returns-in_err-w : goal.returns-in_err-w
 returns-in_err-w g c =
     let p = err_from_is_err_and c.from_residual.result c.from_residual.ensures.1 in
     let e = during_err Rotation c.weigh_up.result _ c.in_err-w.ensures in
-    record {
-      edits = ends_unread (g.S.Store.cells c.args.store.now) (held c.args.path.now) c.args.root.now c.args.sessions c.in-Some.n e.0 _ _ _ c.in-Some.ensures
-          (sym (ap (sized_in c.wipe.new.draft) e.1) ∙ c.weigh_up.ensures.value) p.1 p.2 e.2;
-      keeps = λ h. h;
-    }
+    let x = ends_unread (g.S.Store.cells c.args.store.now) (held c.args.path.now) c.args.root.now c.args.sessions c.in-Some.n e.0 _ _ _ c.in-Some.ensures
+    (sym (ap (sized_in c.wipe.new.draft) e.1) ∙ c.weigh_up.ensures.value) p.1 p.2 e.2 in
+    record { edits = x.edits; inside = x; keeps = λ h. h }
 
 pub returns-in_err-put_to-in-None : goal.returns-in_err-put_to-in-None
 returns-in_err-put_to-in-None g c =
@@ -40,12 +40,11 @@ pub returns-in_ok-put_to-in-None : goal.returns-in_ok-put_to-in-None
 returns-in_ok-put_to-in-None g c =
     let e = during_ok Rotation c.weigh_up.result c.in_ok-w.w c.in_ok-w.ensures in
     let v = sym (ap (sized_in c.wipe.new.draft) e) ∙ c.weigh_up.ensures.value in
-    record {
-      edits = ends_sized (g.S.Store.cells c.args.store.now) (held c.args.path.now) c.args.root.now c.args.sessions (g.S.Store.cells c.write.new.self) c.in-Some.n c.weigh.result c.weigh-2.result c.len.result _ (held c.up-above.result)
-          c.in-Some.ensures v c.in-None.ensures (c.weigh.ensures.value ∙ sym (weight_seen c.wipe.new.draft c.in_ok-w.w.left)) (c.weigh-2.ensures.value ∙ sym (weight_seen c.wipe.new.draft c.in_ok-w.w.right)) c.up-above.ensures c.len.ensures.value
-          (writes_one (g.S.Store.cells c.args.store.now) (g.S.Store.cells c.write.new.self) c.in_ok-w.w.node.number c.in_ok-w.w.node.node c.write.ensures.after);
-      keeps = c.write.ensures.keeps;
-    }
+    let x = ends_sized (g.S.Store.cells c.args.store.now) (held c.args.path.now) c.args.root.now c.args.sessions (g.S.Store.cells c.write.new.self) c.in-Some.n c.weigh.result c.weigh-2.result c.len.result _ (held c.up-above.result)
+    c.in-Some.ensures v c.in-None.ensures (c.weigh.ensures.value ∙ sym (weight_seen c.wipe.new.draft c.in_ok-w.w.left)) (c.weigh-2.ensures.value ∙ sym (weight_seen c.wipe.new.draft c.in_ok-w.w.right)) c.up-above.ensures c.len.ensures.value
+    (sized_bound (g.S.Store.cells c.args.store.now) c.in-Some.n _ v).node
+    (writes_one (g.S.Store.cells c.args.store.now) (g.S.Store.cells c.write.new.self) c.in_ok-w.w.node.number c.in_ok-w.w.node.node c.write.ensures.after) in
+    record { edits = x.edits; inside = x; keeps = c.write.ensures.keeps }
 
 pub turn_node-requires : goal.turn_node-requires
 turn_node-requires g c =
@@ -65,19 +64,15 @@ returns-in_err-turn_node-in-Some-overweight g c =
     let v = sym (ap (sized_in c.wipe.new.draft) e) ∙ c.weigh_up.ensures.value in
     let p = err_from_is_err_and c.from_residual-in_err-turn_node-in-Some-overweight.result c.from_residual-in_err-turn_node-in-Some-overweight.ensures.1 in
     let t = c.in_err-turn_node-in-Some-overweight.ensures in
-    record {
-      edits = ends_unturned (g.S.Store.cells c.args.store.now) (held c.args.path.now) c.args.root.now c.args.sessions (g.S.Store.cells c.turn_node.new.store) c.in-Some.n c.weigh.result c.weigh-2.result _ _ (held c.up-above.result) c.in-Some-overweight.lean _ _ _
-          c.in-Some.ensures v c.in-Some-overweight.ensures (c.weigh.ensures.value ∙ sym (weight_seen c.wipe.new.draft c.in_ok-w.w.left)) (c.weigh-2.ensures.value ∙ sym (weight_seen c.wipe.new.draft c.in_ok-w.w.right)) c.up-above.ensures t.turns p.1 p.2;
-      keeps = t.keeps;
-    }
+    let x = ends_unturned (g.S.Store.cells c.args.store.now) (held c.args.path.now) c.args.root.now c.args.sessions (g.S.Store.cells c.turn_node.new.store) c.in-Some.n c.weigh.result c.weigh-2.result _ _ (held c.up-above.result) c.in-Some-overweight.lean _ _ _
+    c.in-Some.ensures v c.in-Some-overweight.ensures (c.weigh.ensures.value ∙ sym (weight_seen c.wipe.new.draft c.in_ok-w.w.left)) (c.weigh-2.ensures.value ∙ sym (weight_seen c.wipe.new.draft c.in_ok-w.w.right)) c.up-above.ensures t.inside p.1 p.2 in
+    record { edits = x.edits; inside = x; keeps = t.keeps }
 
 pub returns-in_ok-turn_node-in-Some-overweight : goal.returns-in_ok-turn_node-in-Some-overweight
 returns-in_ok-turn_node-in-Some-overweight g c =
     let e = during_ok Rotation c.weigh_up.result c.in_ok-w.w c.in_ok-w.ensures in
     let v = sym (ap (sized_in c.wipe.new.draft) e) ∙ c.weigh_up.ensures.value in
     let t = c.in_ok-turn_node-in-Some-overweight.ensures in
-    record {
-      edits = ends_turned (g.S.Store.cells c.args.store.now) (held c.args.path.now) c.args.root.now c.args.sessions (g.S.Store.cells c.turn_node.new.store) c.in-Some.n c.weigh.result c.weigh-2.result c.len-in-Some-overweight.result _ _ (held c.up-above.result) c.in-Some-overweight.lean
-          c.in-Some.ensures v c.in-Some-overweight.ensures (c.weigh.ensures.value ∙ sym (weight_seen c.wipe.new.draft c.in_ok-w.w.left)) (c.weigh-2.ensures.value ∙ sym (weight_seen c.wipe.new.draft c.in_ok-w.w.right)) c.up-above.ensures c.len-in-Some-overweight.ensures.value t.turns;
-      keeps = t.keeps;
-    }
+    let x = ends_turned (g.S.Store.cells c.args.store.now) (held c.args.path.now) c.args.root.now c.args.sessions (g.S.Store.cells c.turn_node.new.store) c.in-Some.n c.weigh.result c.weigh-2.result c.len-in-Some-overweight.result _ _ (held c.up-above.result) c.in-Some-overweight.lean
+    c.in-Some.ensures v c.in-Some-overweight.ensures (c.weigh.ensures.value ∙ sym (weight_seen c.wipe.new.draft c.in_ok-w.w.left)) (c.weigh-2.ensures.value ∙ sym (weight_seen c.wipe.new.draft c.in_ok-w.w.right)) c.up-above.ensures c.len-in-Some-overweight.ensures.value t.inside in
+    record { edits = x.edits; inside = x; keeps = t.keeps }

@@ -68,7 +68,7 @@ returns g c =
     let cs = g.S.Store.cells c.args.store.now in
     let f = c.in_ok-found.ensures in
     record {
-      edits = edits_end cs (held c.args.path.now) c.args.root.now _ _ _ _ _ (left_of c.in_ok-found.found) _ f.chosen c.finish.ensures.enough
+      edits = edits_end cs (held c.args.path.now) c.args.root.now _ _ _ _ _ (left_of c.in_ok-found.found) _ f.chosen c.finish.ensures.inside
           (drop_done cs (held c.args.path.now) c.args.root.now _ c.args.sessions c.args.key _ _ (graft_at c.replace.new.draft c.in_ok-top.top) (holds_ok _ _ _ c.in_ok-p.ensures) (f.asked ∙ ap (free_for cs) c.wanted-want.ensures.value)
           (dropped cs c.in_ok-p.p c.replace.new.draft c.replace.result c.in_ok-top.top c.replace.ensures.value c.in_ok-top.ensures)) c.finish.ensures.ends;
       keeps = c.finish.ensures.keeps;

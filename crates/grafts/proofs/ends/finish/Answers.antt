@@ -3,14 +3,14 @@ use Rattle.std.proofs.lemmas.Result.{err_from_is_err_and, MatchResult-at_err}
 use Rattle.edits.specs.declared.fault.Doing.TheVariants.{Copy}
 use Rattle.edits.proofs.Rotating.{during_ok, during_err}
 use Rattle.search.specs.Paths.{held}
-use Rattle.grafts.proofs.Ending.{joint_inside, graft_enough, graft_stopped, graft_done}
+use Rattle.grafts.proofs.Ending.{joint_inside, graft_inside, graft_stopped, graft_done}
 use Rattle.grafts.proofs.ends.finish.Goals as goal
 
 pub returns-in_err-joint : goal.returns-in_err-joint
 returns-in_err-joint g c =
     let p = err_from_is_err_and c.from_residual.result c.from_residual.ensures.1 in
     record {
-      enough = graft_enough _ c.args.sought.now (g.S.Store.cells c.args.store.now) (held c.args.way.now) c.args.root.now c.args.sessions _ _ c.requires.many;
+      inside = graft_inside _ c.args.sought.now (g.S.Store.cells c.args.store.now) (held c.args.way.now) c.args.root.now c.args.sessions _ _ c.requires.many c.requires.inside c.requires.gone;
       ends = graft_stopped _ c.args.sought.now (g.S.Store.cells c.args.store.now) (held c.args.way.now) c.args.root.now c.args.sessions _ _ (held c.args.path.now) c.joint_for.result _ _ _ c.joint_for.ensures c.in_err-joint.ensures p.1 p.2;
       keeps = λ h. h;
     }
@@ -35,7 +35,7 @@ returns-in_err-put_to g c =
 
 pub returns : goal.returns
 returns g c = record {
-  enough = graft_enough _ c.args.sought.now (g.S.Store.cells c.args.store.now) (held c.args.way.now) c.args.root.now c.args.sessions _ _ c.requires.many;
+  inside = graft_inside _ c.args.sought.now (g.S.Store.cells c.args.store.now) (held c.args.way.now) c.args.root.now c.args.sessions _ _ c.requires.many c.requires.inside c.requires.gone;
   ends = graft_done _ c.args.sought.now (g.S.Store.cells c.args.store.now) (held c.args.way.now) c.args.root.now c.args.sessions _ _ (held c.args.path.now) _ (g.S.Store.cells c.commit.new.store) _ c.len.result c.joint_for.result c.in_ok-joint.joint
       c.joint_for.ensures c.in_ok-joint.ensures refl c.len.ensures.value c.commit.ensures.root c.commit.ensures.writes;
   keeps = c.commit.ensures.keeps;

@@ -76,7 +76,7 @@ returns g c =
     let w = c.wipe.ensures in
     let s = sprouted (length cs) c.wipe.new.draft c.join.new.draft c.args.region c.join.result c.link_to-top.result w.count w.out w.gone c.join.ensures c.link_to-top.ensures in
     record {
-      edits = edits_end cs (held c.args.path.now) c.args.root.now _ _ _ _ _ (left_of c.in_ok-found.found) _ f.chosen c.finish.ensures.enough
+      edits = edits_end cs (held c.args.path.now) c.args.root.now _ _ _ _ _ (left_of c.in_ok-found.found) _ f.chosen c.finish.ensures.inside
           (put_done cs (held c.args.path.now) c.args.root.now _ c.args.sessions c.args.region _ _ (record { side = tree_of c.join.new.draft c.link_to-top.result; gone = gone_of c.join.new.draft }) (begins_ok _ _ _ c.in_ok-end.ensures) c.in_ok-meets_none.ensures c.in_ok-has_room.ensures
           f.asked s.side s.none) c.finish.ensures.ends;
       keeps = c.finish.ensures.keeps;

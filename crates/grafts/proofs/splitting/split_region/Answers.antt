@@ -97,7 +97,7 @@ returns g c =
     let told = parts_as cs c.in_ok-p.p _ _ _ (lower_of c.args.key c.args.lower v) (upper_of c.args.key c.args.upper v) c.part.ensures.value c.lower_part-below.ensures c.upper_part-above.ensures in
     let f = c.in_ok-found.ensures in
     record {
-      edits = edits_end cs (held c.args.path.now) c.args.root.now _ _ _ _ _ (left_of c.in_ok-found.found) _ f.chosen c.finish.ensures.enough
+      edits = edits_end cs (held c.args.path.now) c.args.root.now _ _ _ _ _ (left_of c.in_ok-found.found) _ f.chosen c.finish.ensures.inside
           (split_done cs (held c.args.path.now) c.args.root.now _ _ c.args.sessions c.args.key c.args.lower c.args.upper _ (holds_ok _ _ _ c.in_ok-p.ensures) _ _ (graft_at c.part.new.draft c.link_to-top.result)
           (divided_at cs c.in_ok-p.p _ _ c.part.new.draft c.part.result c.in_ok-side.side told c.in_ok-side.ensures c.link_to-top.result c.link_to-top.ensures c.part.ensures.good)
           c.in_ok-past_low.ensures c.in_ok-has_room.ensures f.asked
