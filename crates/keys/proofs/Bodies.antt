@@ -3,7 +3,7 @@ use Rattle.std.proofs.Common.{◌≡◌, ℕ, ◌^◌, ◌<◌, List, length, �
 use mir.Facts.{Fits-of_z}
 use Rattle.std.proofs.lemmas.Int.{to_z-of_z, of_z-to_z}
 use Rattle.keys.specs.Bytes.{AllBytes, bytes, number, signed_bytes, signed_number}
-use Rattle.keys.proofs.Numbers.{number_bytes, length_bytes, number_lt, bytes_number}
+use Rattle.keys.proofs.Numbers.{number_bytes, number_lt, bytes_number}
 
 pub bytes_again : (r : ℤ) (bs : List ℕ) → r ≡ signed_number bs → length bs ≡ 8 → AllBytes bs → signed_bytes r ≡ bs
 unfolding signed_bytes signed_number
@@ -15,12 +15,3 @@ unfolding signed_bytes signed_number
 number_back z f =
     let small : of_z w64 z < 2 ^ 64 = (Fits-of_z f).fits in
     ap (to_z w64) (number_bytes 8 (of_z w64 z) ∙ mod-eq_of_lt small) ∙ to_z-of_z w64 z f
-
--- the same with the lists that the machine's conversions give
-pub number_read : (r : ℤ) (bs taken : List ℕ) → taken ≡ bs → r ≡ to_z w64 (number 8 0 taken) → r ≡ signed_number bs
-unfolding signed_number
-number_read r bs taken e h = h ∙ ap (λ l. to_z w64 (number 8 0 l)) e
-
-pub length_signed : (z : ℤ) → length (signed_bytes z) ≡ 8
-unfolding signed_bytes
-length_signed z = length_bytes 8 (of_z w64 z)

@@ -2,6 +2,5 @@ pub mod Numbers
 pub mod Bodies
 pub mod Scaling
 pub mod Headed
-pub mod Strays
 pub mod Hexes
 pub mod Tellings

@@ -1,5 +1,5 @@
 -- Bytes and the number that they write give each other back.
-use Rattle.std.proofs.Common.{◌≡◌, ℕ, zero, suc, ◌+◌, ◌*◌, ◌/◌, ◌%◌, ◌^◌, ◌<◌, List, [], ◌∷◌, length, get_or, sym, refl, ap, ◌∙◌, mod-eq_of_lt, mul_assoc, arith, lit<}
+use Rattle.std.proofs.Common.{◌≡◌, ℕ, zero, suc, ◌+◌, ◌*◌, ◌/◌, ◌%◌, ◌^◌, ◌<◌, ◌≤◌, List, [], ◌∷◌, length, get_or, take, drop, sym, refl, ap, ◌∙◌, mod-eq_of_lt, mul_assoc, arith, lit<}
 use native.Mathlib.Nat.{mod-one, one-le-pow, pow-succ', mul-add-div_right, mul-add-mod_self_right}
 use lib.Arith.{mod-mul, digits_div, digits_lt}
 use Rattle.keys.specs.Bytes.{AllBytes, bytes, number}
@@ -11,6 +11,18 @@ pos k = one-le-pow k 256 (lit< tt)
 pub shifted : (k i b : ℕ) (bs : List ℕ) → number k (suc i) (b ∷ bs) ≡ number k i bs
 shifted zero i b bs = refl
 shifted (suc k) i b bs = ap (λ n. get_or bs i 0 * 256 ^ k + n) (shifted k (suc i) b bs)
+
+number_take : (k : ℕ) (bs : List ℕ) → number k 0 (take k bs) ≡ number k 0 bs
+number_take zero bs = refl
+number_take (suc k) [] = refl
+number_take (suc k) (b ∷ bs) =
+    ap (λ n. b * 256 ^ k + n) (shifted k 0 b (take k bs) ∙ number_take k bs ∙ sym (shifted k 0 b bs))
+
+-- k bytes taken out from place i on write the number that they write there
+pub number_taken : (k i : ℕ) (bs : List ℕ) → i + k ≤ length bs → number k 0 (take k (drop i bs)) ≡ number k i bs
+number_taken k zero bs h = number_take k bs
+number_taken k (suc i) [] h = let z : ⊥ = omega arith in elim z [ ]
+number_taken k (suc i) (b ∷ bs) h = number_taken k i bs (omega arith) ∙ sym (shifted k i b bs)
 
 -- the k lowest bytes of a number write what is left of it by 256^k
 pub number_bytes : (k n : ℕ) → number k 0 (bytes k n) ≡ n % 256 ^ k

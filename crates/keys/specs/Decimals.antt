@@ -1,7 +1,7 @@
 -- Decimal keys: a coefficient and a scale, which mean coefficient / 10^scale.
 use Rattle.std.specs.Prelude.{ℕ, ◌-◌, ◌^◌, cond, ◌||◌, List, ◌∷◌, ◌++◌, drop, ℤ, pos, negsuc, ◌*ℤ◌, Some, None, codes, decimal, Option, int_lt, nat_lt, slice_index}
 use Rattle.std.specs.Fmt.{signed_decimal}
-use Rattle.keys.specs.declared.order.Order.{Order}
+use Rattle.std.specs.declared.cmp.Ordering.{Ordering}
 use Rattle.keys.specs.declared.decimal.Decimal.{Decimal}
 use Rattle.keys.specs.declared.decimal.DecimalFault.{DecimalFault}
 use Rattle.keys.specs.declared.decimal.DecimalFault.TheVariants.{Coefficient, Scale}
@@ -34,7 +34,7 @@ decimal_fault_shown (Scale s) = codes "scale " ++ decimal s
 unfoldable pub scaled : Decimal → ℤ
 scaled k = k.coefficient *ℤ pos (10 ^ (9 - k.scale))
 
-abbrev pub decimal_order : Decimal → Decimal → Order
+abbrev pub decimal_order : Decimal → Decimal → Ordering
 decimal_order a b = orderℤ (scaled a) (scaled b)
 
 abbrev pub decimal_filler : Decimal

@@ -1,7 +1,7 @@
 -- What the comparison of each kind tells, said as a relation.
 use Rattle.std.specs.Prelude.{◌≡◌, ℕ, ◌<◌, List, take, ◌<ℤ◌}
-use Rattle.keys.specs.declared.order.Order.{Order}
-use Rattle.keys.specs.declared.order.Order.TheVariants.{Below, Same, Above}
+use Rattle.std.specs.declared.cmp.Ordering.{Ordering}
+use Rattle.std.specs.declared.cmp.Ordering.TheVariants.{Less, Equal, Greater}
 use Rattle.keys.specs.declared.whole.Whole.{Whole}
 use Rattle.keys.specs.declared.decimal.Decimal.{Decimal}
 use Rattle.keys.specs.declared.text.Text.{Text}
@@ -10,10 +10,10 @@ use Rattle.keys.specs.Decimals.{decimal_order, scaled}
 use Rattle.keys.specs.Texts.{text_order, text_bytes, rank}
 
 -- what each answer says, where one relation stands for 'before'
-abbrev pub Tells : {A : Type 0} → (A → A → Type 0) → Order → A → A → Type 0
-Tells before Below a b = before a b
-Tells before Same a b = a ≡ b
-Tells before Above a b = before b a
+abbrev pub Tells : {A : Type 0} → (A → A → Type 0) → Ordering → A → A → Type 0
+Tells before Less a b = before a b
+Tells before Equal a b = a ≡ b
+Tells before Greater a b = before b a
 
 -- two lists agree up to a place at which the first has the lower byte, or has ended while the second goes on
 abbrev pub Before : List ℕ → List ℕ → Type 0

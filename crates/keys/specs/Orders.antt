@@ -1,18 +1,17 @@
 -- How two elements stand to each other, and what a check and a comparison answer.
 use Rattle.std.specs.Prelude.{ℕ, cond, ℤ, Some, None, Ok, Err, Option, Result, int_lt, nat_lt}
-use Rattle.keys.specs.declared.order.Order.{Order}
-use Rattle.keys.specs.declared.order.Order.TheVariants.{Below, Same, Above}
+use Rattle.std.specs.Ordering.{ordering_reverse}
+use Rattle.std.specs.declared.cmp.Ordering.{Ordering}
+use Rattle.std.specs.declared.cmp.Ordering.TheVariants.{Less, Equal, Greater}
 
 -- how the second stands to the first
-abbrev pub reversed : Order → Order
-reversed Below = Above
-reversed Same = Same
-reversed Above = Below
+abbrev pub reversed : Ordering → Ordering
+reversed = ordering_reverse
 
-abbrev pub NotAbove : Order → Type 0
-NotAbove Below = Unit {0}
-NotAbove Same = Unit {0}
-NotAbove Above = ⊥
+abbrev pub NotAbove : Ordering → Type 0
+NotAbove Less = Unit {0}
+NotAbove Equal = Unit {0}
+NotAbove Greater = ⊥
 
 -- what a check answers of an element: its fault, else t
 abbrev pub checked : {F T : Type 0} → Option F → T → Result T F
@@ -29,9 +28,9 @@ abbrev pub compared : {F T : Type 0} → Option F → Option F → T → Result 
 compared f g o = checked (first_fault f g) o
 
 -- how two whole numbers stand to each other
-abbrev pub orderℤ : ℤ → ℤ → Order
-orderℤ a b = cond (int_lt a b) Below (cond (int_lt b a) Above Same)
+abbrev pub orderℤ : ℤ → ℤ → Ordering
+orderℤ a b = cond (int_lt a b) Less (cond (int_lt b a) Greater Equal)
 
 -- the same of two naturals
-abbrev pub orderℕ : ℕ → ℕ → Order
-orderℕ a b = cond (nat_lt a b) Below (cond (nat_lt b a) Above Same)
+abbrev pub orderℕ : ℕ → ℕ → Ordering
+orderℕ a b = cond (nat_lt a b) Less (cond (nat_lt b a) Greater Equal)

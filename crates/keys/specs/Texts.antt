@@ -1,6 +1,6 @@
 -- Text keys: at most 16 bytes.
 use Rattle.std.specs.Prelude.{ℕ, zero, suc, ◌+◌, ◌/◌, ◌%◌, cond, List, [], ◌∷◌, ◌++◌, take, drop, replicate, Some, None, codes, decimal, Option, ◌==◌, nat_lt, slice_index}
-use Rattle.keys.specs.declared.order.Order.{Order}
+use Rattle.std.specs.declared.cmp.Ordering.{Ordering}
 use Rattle.keys.specs.declared.text.Text.{Text}
 use Rattle.keys.specs.declared.text.TextFault.{TextFault}
 use Rattle.keys.specs.declared.text.TextFault.TheVariants.{Length, Stray}
@@ -40,10 +40,10 @@ rank (x ∷ xs) zero = suc x
 rank (x ∷ xs) (suc i) = rank xs i
 
 -- the first difference decides
-unfoldable pub order_bytes : List ℕ → List ℕ → Order
+unfoldable pub order_bytes : List ℕ → List ℕ → Ordering
 order_bytes a b = orderℕ (rank a (first_difference a b)) (rank b (first_difference a b))
 
-abbrev pub text_order : Text → Text → Order
+abbrev pub text_order : Text → Text → Ordering
 text_order a b = order_bytes (text_bytes a) (text_bytes b)
 
 abbrev pub text_filler : Text

@@ -2,7 +2,7 @@
 use Rattle.std.specs.Prelude.{ℕ, List, pos, None, Option}
 use Rattle.std.specs.Fmt.{signed_decimal}
 use Rattle.std.specs.declared.convert.Infallible.{Infallible}
-use Rattle.keys.specs.declared.order.Order.{Order}
+use Rattle.std.specs.declared.cmp.Ordering.{Ordering}
 use Rattle.keys.specs.declared.whole.Whole.{Whole}
 use Rattle.keys.specs.Orders.{orderℤ}
 use Rattle.keys.specs.Bytes.{signed_bytes, signed_number}
@@ -11,7 +11,7 @@ use Rattle.keys.specs.Bytes.{signed_bytes, signed_number}
 abbrev pub whole_fault : Whole → Option Infallible
 whole_fault k = None
 
-abbrev pub whole_order : Whole → Whole → Order
+abbrev pub whole_order : Whole → Whole → Ordering
 whole_order a b = orderℤ a.0 b.0
 
 abbrev pub whole_filler : Whole

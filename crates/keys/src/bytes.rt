@@ -1,6 +1,15 @@
-// Signed numbers of 64 bits as eight bytes, highest first.
-ghost use Rattle.std.specs.Prelude.{◌≡◌, length};
-ghost use Rattle.keys.specs.Bytes.{signed_bytes, signed_number};
+// Numbers as bytes, highest first.
+ghost use Rattle.std.specs.Prelude.{◌≡◌, ◌+◌, ◌≤◌, length, take, drop};
+ghost use Rattle.keys.specs.Bytes.{number, signed_bytes, signed_number};
+
+// The N bytes from place `at` on, as an array: what `from_be_bytes` takes.
+pub fn bytes_at<const N: usize>(from: &[u8], at: usize) -> [u8; N]
+    requires { at + N ≤ length from.now }
+    ensures value { result ≡ take N (drop at from.now) }
+    ensures number { number N 0 result ≡ number N at from.now }
+{
+    from[at..at + N].try_into().unwrap()
+}
 
 // The number that eight bytes write; its bytes are these again.
 pub(crate) fn read_signed(from: &[u8]) -> i64
@@ -8,9 +17,7 @@ pub(crate) fn read_signed(from: &[u8]) -> i64
     ensures value { result ≡ signed_number from.now }
     ensures again { signed_bytes result ≡ from.now }
 {
-    let mut number = [0; 8];
-    number.copy_from_slice(from);
-    i64::from_be_bytes(number)
+    i64::from_be_bytes(bytes_at(from, 0))
 }
 
 // Writes the bytes of a number, from which it can be read back.
@@ -19,6 +26,5 @@ pub(crate) fn write_signed(number: i64, out: &mut [u8])
     ensures written { out.new ≡ signed_bytes number }
     ensures back { signed_number (signed_bytes number) ≡ number }
 {
-    let bytes = number.to_be_bytes();
-    out.copy_from_slice(&bytes);
+    out.copy_from_slice(&number.to_be_bytes());
 }

@@ -5,7 +5,8 @@ ghost use Rattle.std.proofs.Common.{rules};
 
 use crate::bytes::{read_signed, write_signed};
 use crate::key::Key;
-use crate::order::{Order, Ordered, order_of};
+use crate::order::Ordered;
+use std::cmp::Ordering;
 use std::fmt;
 
 #[derive(Clone, Copy, PartialEq, Eq, Debug)]
@@ -48,9 +49,8 @@ impl Ordered for Decimal {
     ghost transitive = { Prim.search rules };
 
     fn check(&self) -> Result<(), DecimalFault> {
-        let coefficient = self.coefficient;
-        if coefficient < -MOST || coefficient > MOST {
-            return Err(DecimalFault::Coefficient(coefficient));
+        if !(-MOST..=MOST).contains(&self.coefficient) {
+            return Err(DecimalFault::Coefficient(self.coefficient));
         }
         if self.scale > 9 {
             return Err(DecimalFault::Scale(self.scale));
@@ -58,10 +58,10 @@ impl Ordered for Decimal {
         Ok(())
     }
 
-    fn compare(&self, other: &Decimal) -> Result<Order, DecimalFault> {
+    fn compare(&self, other: &Decimal) -> Result<Ordering, DecimalFault> {
         self.check()?;
         other.check()?;
-        Ok(order_of(self.units(), other.units()))
+        Ok(self.units().cmp(&other.units()))
     }
 }
 

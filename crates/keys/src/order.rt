@@ -1,16 +1,10 @@
 // The order of keys: what the tree is sorted by, and nothing else.
 ghost use Rattle.std.specs.Prelude.{◌≡◌, None, Option};
-ghost use Rattle.keys.specs.declared.order.Order.{Order};
-ghost use Rattle.keys.specs.declared.order.Order.TheVariants.{Same};
-ghost use Rattle.keys.specs.Orders.{reversed, NotAbove, checked, compared, orderℤ};
+ghost use Rattle.std.specs.declared.cmp.Ordering.{Ordering};
+ghost use Rattle.std.specs.declared.cmp.Ordering.TheVariants.{Equal};
+ghost use Rattle.keys.specs.Orders.{reversed, NotAbove, checked, compared};
 
-// How one element stands to another.
-#[derive(Clone, Copy, PartialEq, Eq, Debug)]
-pub enum Order {
-    Below,
-    Same,
-    Above,
-}
+use std::cmp::Ordering;
 
 // Elements that can be compared. Some of them may be ill formed: such an element has a fault,
 // and is neither below, the same as nor above any other.
@@ -22,35 +16,22 @@ pub trait Ordered: Sized {
     ghost fault: { Self → Option Self.Fault };
 
     // How the first element stands to the second; it says something of well-formed ones only.
-    ghost order: { Self → Self → Order };
+    ghost order: { Self → Self → Ordering };
 
     // Whether the element is well formed, or which fault it has.
     fn check(&self) -> Result<(), Self::Fault>
         ensures { result ≡ checked (fault self.now) tt };
 
     // How the element stands to the other, or the fault of an ill-formed one: the first's where both are.
-    fn compare(&self, other: &Self) -> Result<Order, Self::Fault>
+    fn compare(&self, other: &Self) -> Result<Ordering, Self::Fault>
         ensures { result ≡ compared (fault self.now) (fault other.now) (order self.now other.now) };
 
     // An element is the same as itself.
-    ghost reflexive: { (a : Self) → fault a ≡ None → order a a ≡ Same };
+    ghost reflexive: { (a : Self) → fault a ≡ None → order a a ≡ Equal };
 
     // Comparing b with a reverses comparing a with b.
     ghost reversal: { (a b : Self) → fault a ≡ None → fault b ≡ None → order b a ≡ reversed (order a b) };
 
     // 'Not above' chains.
     ghost transitive: { (a b c : Self) → fault a ≡ None → fault b ≡ None → fault c ≡ None → NotAbove (order a b) → NotAbove (order b c) → NotAbove (order a c) };
-}
-
-// How two numbers stand to each other.
-pub(crate) fn order_of(a: i64, b: i64) -> Order
-    ensures { result ≡ orderℤ a b }
-{
-    if a < b {
-        Order::Below
-    } else if b < a {
-        Order::Above
-    } else {
-        Order::Same
-    }
 }

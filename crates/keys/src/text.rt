@@ -1,14 +1,17 @@
 // Text keys: at most 16 bytes, with zeros past the length.
-ghost use Rattle.std.specs.Prelude.{◌≡◌, ◌<◌, Some};
+ghost use Rattle.std.specs.Prelude.{◌≡◌, Some};
 ghost use Rattle.std.specs.Fmt.{WritesOnOk};
-ghost use Rattle.keys.specs.Orders.{checked};
-ghost use Rattle.keys.specs.Texts.{text_fault, text_order, text_filler, text_body, text_of, text_shown, text_fault_shown, order_bytes, hex, hex_digit, text_bytes};
+ghost use Rattle.keys.specs.Texts.{text_fault, text_order, text_filler, text_body, text_of, text_shown, text_fault_shown, hex, text_bytes};
 ghost use Rattle.keys.specs.Lexes.{bytes_reflexive, bytes_reversal, bytes_transitive};
 
+use crate::bytes::bytes_at;
 use crate::key::Key;
-use crate::order::{Order, Ordered};
+use crate::order::Ordered;
+use std::cmp::Ordering;
 use std::fmt;
 
+// A length beside a buffer, and no fixed-capacity type, since the format has a length byte and 16 bytes, any of which
+// may be ill formed and comes back as it was.
 #[derive(Clone, Copy, PartialEq, Eq, Debug)]
 pub struct Text {
     pub len: u8,
@@ -20,28 +23,6 @@ pub struct Text {
 pub enum TextFault {
     Length(u8),
     Stray { place: u8, byte: u8 },
-}
-
-// How two lists of bytes stand to each other: the first difference decides.
-fn order_of_bytes(a: &[u8], b: &[u8]) -> Order
-    ensures { result ≡ order_bytes a.now b.now }
-{
-    let common = a.len().min(b.len());
-    for i in 0..common {
-        if a[i] < b[i] {
-            return Order::Below;
-        }
-        if b[i] < a[i] {
-            return Order::Above;
-        }
-    }
-    if common < b.len() {
-        Order::Below
-    } else if common < a.len() {
-        Order::Above
-    } else {
-        Order::Same
-    }
 }
 
 impl Ordered for Text {
@@ -61,8 +42,8 @@ impl Ordered for Text {
         if self.len > 16 {
             return Err(TextFault::Length(self.len));
         }
-        for place in self.len..16 {
-            let byte = self.bytes[place as usize];
+        let padding = &self.bytes[self.len as usize..];
+        for (place, &byte) in (self.len..16).zip(padding) {
             if byte != 0 {
                 return Err(TextFault::Stray { place, byte });
             }
@@ -70,12 +51,12 @@ impl Ordered for Text {
         Ok(())
     }
 
-    fn compare(&self, other: &Text) -> Result<Order, TextFault> {
+    fn compare(&self, other: &Text) -> Result<Ordering, TextFault> {
         self.check()?;
         other.check()?;
-        let ours = &self.bytes[0..self.len as usize];
-        let theirs = &other.bytes[0..other.len as usize];
-        Ok(order_of_bytes(ours, theirs))
+        let ours = &self.bytes[..self.len as usize];
+        let theirs = &other.bytes[..other.len as usize];
+        Ok(ours.cmp(theirs))
     }
 }
 
@@ -101,39 +82,23 @@ impl Key for Text {
 
     fn write_body(&self, out: &mut [u8]) {
         out[0] = self.len;
-        let rest = &mut out[1..17];
-        rest.copy_from_slice(&self.bytes);
+        out[1..17].copy_from_slice(&self.bytes);
     }
 
     fn read_body(from: &[u8]) -> Text {
-        let mut bytes = [0; 16];
-        bytes.copy_from_slice(&from[1..17]);
         Text {
             len: from[0],
-            bytes,
+            bytes: bytes_at(from, 1),
         }
     }
 }
 
-// One hexadecimal digit.
-fn hex_digit(d: u8) -> char
-    requires { d < 16 }
-    ensures { result ≡ hex_digit d }
-{
-    if d < 10 {
-        char::from(b'0' + d)
-    } else {
-        char::from(b'a' + (d - 10))
-    }
-}
-
-// Two hexadecimal digits a byte.
+// Two hexadecimal digits a byte. A function beside `fmt`: there the proof did not close, since what the bytes are was not known in the loop.
 fn write_hex<W: fmt::Write>(bytes: &[u8], f: &mut fmt::Formatter<W>) -> fmt::Result
     ensures { WritesOnOk W.Write.write_str_gives f.old result (hex bytes.now) f.new }
 {
     for byte in bytes {
-        f.write_char(hex_digit(*byte / 16))?;
-        f.write_char(hex_digit(*byte % 16))?;
+        write!(f, "{byte:02x}")?;
     }
     Ok(())
 }
@@ -143,11 +108,11 @@ impl fmt::Display for Text {
 
     fn fmt<W: fmt::Write>(&self, f: &mut fmt::Formatter<W>) -> fmt::Result {
         // A length above 16 has no bytes of its own past the sixteenth.
-        let len = self.len.min(16);
-        if len == 0 {
+        let bytes = &self.bytes[..self.len.min(16) as usize];
+        if bytes.is_empty() {
             return f.write_str("-");
         }
-        write_hex(&self.bytes[0..len as usize], f)
+        write_hex(bytes, f)
     }
 }
 

@@ -5,7 +5,8 @@ ghost use Rattle.std.proofs.Common.{rules};
 
 use crate::bytes::{read_signed, write_signed};
 use crate::key::Key;
-use crate::order::{Order, Ordered, order_of};
+use crate::order::Ordered;
+use std::cmp::Ordering;
 use std::convert::Infallible;
 use std::fmt;
 
@@ -29,8 +30,8 @@ impl Ordered for Whole {
         Ok(())
     }
 
-    fn compare(&self, other: &Whole) -> Result<Order, Infallible> {
-        Ok(order_of(self.0, other.0))
+    fn compare(&self, other: &Whole) -> Result<Ordering, Infallible> {
+        Ok(self.0.cmp(&other.0))
     }
 }
 

@@ -1,4 +1,4 @@
-use Rattle.std.proofs.Common.{◌≡◌, ◌-◌, ◌^◌, pos, ◌*ℤ◌, sym, ap, ◌∙◌, subst, w64, SFits, to_z, of_z, rules}
+use Rattle.std.proofs.Common.{◌≡◌, ◌-◌, ◌^◌, pos, ◌*ℤ◌, ap, ◌∙◌, w64, SFits, to_z, of_z, rules}
 use Rattle.std.proofs.lemmas.Int.{to_z-of_z}
 use Rattle.keys.specs.Decimals.{coefficient_fault, scale_fault, scaled}
 use Rattle.keys.proofs.Scaling.{first_none, coefficient_small, power_small, product_fits}
@@ -24,9 +24,6 @@ fits c =
     product_fits k.coefficient (10 ^ (9 - k.scale))
     (coefficient_small k.coefficient (first_none (coefficient_fault k.coefficient) (scale_fault k.scale) c.requires))
     (power_small k.scale)
-
-pub overflow_mul-result : goal.overflow_mul-result
-overflow_mul-result c = subst (SFits w64) (sym (product c)) (fits c)
 
 pub returns : goal.returns
 returns c = ap (λ z. to_z w64 (of_z w64 z)) (product c) ∙ to_z-of_z w64 (scaled c.args.self.now) (fits c)
