@@ -86,7 +86,7 @@ module _ {K F : Type 0} (k : key.Ghosts K F) (width : ℕ) (bs : List ℕ) (l r 
       l ≡ number 2 1 bs → r ≡ number 2 3 bs → s ≡ number 2 5 bs → n ≡ number 8 7 bs → t ≡ number 4 15 bs →
       lo ≡ k.unbody (take (19 + width - 19) (drop 19 bs)) → hi ≡ k.unbody (take (19 + 2 * width - (19 + width)) (drop (19 + width) bs)) →
       k.body lo ≡ take (19 + width - 19) (drop 19 bs) → k.body hi ≡ take (19 + 2 * width - (19 + width)) (drop (19 + width) bs) →
-      (read_node ≡ node_of k bs) × (node_bytes k read_node ≡ bs)
+      node_bytes k read_node ≡ bs
   decoded e len small el er es en et elo ehi blo bhi =
       let w = k.wide in
       let a : take (19 + width - 19) (drop 19 bs) ≡ take w (drop 19 bs) = ap (λ x. take x (drop 19 bs)) (omega arith) in
@@ -96,4 +96,4 @@ module _ {K F : Type 0} (k : key.Ghosts K F) (width : ℕ) (bs : List ℕ) (l r 
       same_node _ _ _ _ _ _ _ _ _ _ _ _ _ _ _ _ refl el er es en et (elo ∙ ap k.unbody a) (ehi ∙ ap k.unbody b) in
       let bl : k.body (k.unbody (take w (drop 19 bs))) ≡ take w (drop 19 bs) = ap k.body (sym (elo ∙ ap k.unbody a)) ∙ blo ∙ a in
       let bh : k.body (k.unbody (take w (drop (19 + w) bs))) ≡ take w (drop (19 + w) bs) = ap k.body (sym (ehi ∙ ap k.unbody b)) ∙ bhi ∙ b in
-      (v, ap (node_bytes k) v ∙ whole_row w bs (k.body (k.unbody (take w (drop 19 bs)))) (k.body (k.unbody (take w (drop (19 + w) bs)))) len small bl bh)
+      ap (node_bytes k) v ∙ whole_row w bs (k.body (k.unbody (take w (drop 19 bs)))) (k.body (k.unbody (take w (drop (19 + w) bs)))) len small bl bh

@@ -1,7 +1,7 @@
 -- The same writes on bytes and on records.
-use Rattle.std.proofs.Common.{◌≡◌, ℕ, suc, ◌+◌, ◌-◌, ◌/◌, ◌<◌, ◌≤◌, Bool, true, false, cond, List, [], ◌∷◌, length, get_or, drop, set, Some, None, sym, refl, ap, ◌∙◌, add-one, arith, drop-cons}
+use Rattle.std.proofs.Common.{◌≡◌, ℕ, suc, ◌+◌, ◌-◌, ◌/◌, ◌<◌, Bool, true, false, cond, List, [], ◌∷◌, length, get_or, drop, set, Some, None, sym, refl, ap, ◌∙◌, add-one, arith, drop-cons}
 use lib.ListN.{length-map}
-use Rattle.std.proofs.lemmas.List.{map-set, drop_all}
+use Rattle.std.proofs.lemmas.List.{map-set}
 use Rattle.std.proofs.lemmas.Bool.{eqb-true}
 use Rattle.keys.specs.declared.key.Key as key
 use Rattle.store.specs.declared.node.Node.{Node}
@@ -63,6 +63,3 @@ module _ {S K : Type 0} (after : S → ℕ → Node K → S) (ws : Writes K) (i 
       let one : run after s (drop i ws) ≡ run after (after s (get_or ws i w).0 (get_or ws i w).1) (drop (suc i) ws) = ap (run after s) (drop-cons ws i w h) in
       let there : s' ≡ after s (get_or ws i w).0 (get_or ws i w).1 = f ∙ ap (λ x. after s x.0 x.1) e in
       rw add-one (ap (λ x. run after x (drop (suc i) ws)) there ∙ sym one ∙ r)
-
-  pub run_out : length ws ≤ i → run after s (drop i ws) ≡ end → s ≡ end
-  run_out h r = sym (ap (run after s) (drop_all i ws h)) ∙ r

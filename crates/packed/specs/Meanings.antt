@@ -1,25 +1,17 @@
 -- What a byte store means, and that it means what a record store does. Said of what its impl gives as `cells` and `fit`.
--- An impl's `ghosts` also take the dictionaries of its bounds, which do not matter here: any does.
 use Rattle.std.specs.Prelude.{◌≡◌, ℕ, List, [], ◌∷◌}
-use Rattle.std.specs.Borrow.{RattleType}
-use mir.Syntax.{given}
-use Rattle.std.specs.declared.clone.Clone as clone
 use Rattle.keys.specs.declared.key.Key as key
-use Rattle.keys.specs.declared.order.Ordered as ordered
 use Rattle.store.specs.declared.node.Node.{Node}
-use Rattle.store.specs.Cells.{count_answer, all_readable, nodes_after}
+use Rattle.store.specs.Cells.{Cell, count_answer, all_readable, nodes_after}
 use Rattle.store.specs.Fits.{Iff, InRange}
 use Rattle.packed.specs.declared.packing.ByteStore.{ByteStore}
 use Rattle.packed.specs.Layout.{Packs}
 use Rattle.packed.specs.Rooms.{byte_cells, bytes_after}
-use Rattle.packed.specs.contracts.packing.ByteStoreStore.TheImpl as of_bytes
 
 -- a byte store closes no node, and is fit exactly if its number of nodes is in range
-abbrev pub ByteStoreMeaning : (K F : RattleType) → key.Ghosts K.Denot F.Denot → ordered.Ghosts K.Denot F.Denot →
-    clone.Ghosts K.Denot → clone.Ghosts F.Denot → Type 0
-ByteStoreMeaning K F k o kc fc = (s : ByteStore K.Denot) →
-    let store = of_bytes.ghosts K F k (given 0) o (given 0) fc (given 0) kc (given 0) in
-    (store.cells s ≡ byte_cells k s.bytes.now) × Iff (store.fit s) (InRange (count_answer (store.cells s)))
+abbrev pub ByteStoreMeaning : {K F : Type 0} → key.Ghosts K F → (ByteStore K → List (Cell K)) → (ByteStore K → Type 0) → Type 0
+ByteStoreMeaning {K} k cells fit = (s : ByteStore K) →
+    (cells s ≡ byte_cells k s.bytes.now) × Iff (fit s) (InRange (count_answer (cells s)))
 
 -- a list of writes: each the number of a node, and what is written there
 abbrev pub Writes : Type 0 → Type 0

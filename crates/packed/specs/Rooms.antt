@@ -4,6 +4,7 @@ use Rattle.keys.specs.declared.key.Key as key
 use Rattle.store.specs.declared.node.Node.{Node}
 use Rattle.store.specs.declared.fault.Function.{Function}
 use Rattle.store.specs.declared.fault.StoreFault.{StoreFault}
+use Rattle.std.specs.declared.ops.Range.{Range}
 use Rattle.store.specs.Faults.{outside, inside_or}
 use Rattle.store.specs.Cells.{Cell, all_readable}
 use Rattle.packed.specs.Layout.{node_width, node_of, node_bytes}
@@ -21,9 +22,13 @@ byte_nodes k bs = nodes_in (node_width k.wide) (node_of k) (length bs / node_wid
 abbrev pub byte_cells : {K F : Type 0} → key.Ghosts K F → List ℕ → List (Cell K)
 byte_cells k bs = all_readable (byte_nodes k bs)
 
--- from where to where node n lies in a row of `len` bytes, if it is one of the nodes
-abbrev pub room_answer : Function → ℕ → ℕ → ℕ → Result (ℕ × ℕ) StoreFault
-room_answer f n len m = inside_or f n (len / m) (Ok ((n - 1) * m, (n - 1) * m + m))
+-- where node n lies, each of the nodes having m bytes
+abbrev pub room : ℕ → ℕ → Range ℕ
+room n m = record { start = (n - 1) * m; end = (n - 1) * m + m }
+
+-- where node n lies in a row of `len` bytes, if it is one of the nodes
+abbrev pub room_answer : Function → ℕ → ℕ → ℕ → Result (Range ℕ) StoreFault
+room_answer f n len m = inside_or f n (len / m) (Ok (room n m))
 
 -- the bytes after v was written to node n: those before the node and those behind it are as they were;
 -- all are as they were where n is outside

@@ -18,8 +18,8 @@ pub fn write_both<K: Key>(
     ensures nodes { records.new.nodes.now ≡ run nodes_after records.old.nodes.now writes.now }
     ensures agree { byte_cells K.Key.own bytes.old.bytes.now ≡ all_readable records.old.nodes.now → byte_cells K.Key.own bytes.new.bytes.now ≡ all_readable records.new.nodes.now }
 {
-    for change in writes {
-        let _ = bytes.write(change.0, &change.1);
-        let _ = records.write(change.0, &change.1);
+    for (n, node) in writes {
+        let _ = bytes.write(*n, node);
+        let _ = records.write(*n, node);
     }
 }

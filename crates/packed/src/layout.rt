@@ -1,10 +1,9 @@
 // A node as bytes: mark, left, right, size, rows, waits, low, high, each number highest byte first.
-ghost use Rattle.std.specs.Prelude.{◌≡◌, ◌+◌, ◌^◌, ◌<◌, ◌≤◌, length, if◌then◌else◌, Some, None};
-ghost use Rattle.keys.specs.Bytes.{number};
+ghost use Rattle.std.specs.Prelude.{◌≡◌, ◌^◌, ◌<◌, length, if◌then◌else◌, Some, None};
 ghost use Rattle.store.specs.declared.node.Node.{Node};
 ghost use Rattle.packed.specs.Layout.{node_width, head_bytes, node_bytes, node_of, node_long, unpacked, Packs, pack_answer, packed_over, addressable};
 
-use keys::Key;
+use keys::{Key, bytes_at};
 use store::Node;
 
 // The bytes before the keys.
@@ -18,36 +17,6 @@ pub(crate) fn node_width<K: Key>() -> Option<usize>
     keys.checked_add(HEAD)
 }
 
-fn read_u16(from: &[u8], at: usize) -> u16
-    requires { at + 2 ≤ length from.now }
-    ensures { result ≡ number 2 at from.now }
-{
-    u16::from_be_bytes([from[at], from[at + 1]])
-}
-
-fn read_u32(from: &[u8], at: usize) -> u32
-    requires { at + 4 ≤ length from.now }
-    ensures { result ≡ number 4 at from.now }
-{
-    u32::from_be_bytes([from[at], from[at + 1], from[at + 2], from[at + 3]])
-}
-
-fn read_u64(from: &[u8], at: usize) -> u64
-    requires { at + 8 ≤ length from.now }
-    ensures { result ≡ number 8 at from.now }
-{
-    u64::from_be_bytes([
-        from[at],
-        from[at + 1],
-        from[at + 2],
-        from[at + 3],
-        from[at + 4],
-        from[at + 5],
-        from[at + 6],
-        from[at + 7],
-    ])
-}
-
 // The node of as many bytes as a node has; its bytes are these again.
 pub(crate) fn decode<K: Key>(from: &[u8]) -> Node<K>
     requires { length from.now ≡ node_width K.Key.wide }
@@ -59,29 +28,30 @@ pub(crate) fn decode<K: Key>(from: &[u8]) -> Node<K>
     let high = K::read_body(&from[HEAD + width..HEAD + 2 * width]);
     Node {
         mark: from[0],
-        left: read_u16(from, 1),
-        right: read_u16(from, 3),
-        size: read_u16(from, 5),
-        rows: read_u64(from, 7),
-        waits: read_u32(from, 15),
+        left: u16::from_be_bytes(bytes_at(from, 1)),
+        right: u16::from_be_bytes(bytes_at(from, 3)),
+        size: u16::from_be_bytes(bytes_at(from, 5)),
+        rows: u64::from_be_bytes(bytes_at(from, 7)),
+        waits: u32::from_be_bytes(bytes_at(from, 15)),
         low,
         high,
     }
 }
 
-// The bytes before the keys. A plain function, since here the numbers are known to fit.
+// The bytes before the keys. It takes the numbers one by one: that they fit is known of parameters, and was not proved of
+// the fields of a node behind a reference.
 fn head(mark: u8, left: u16, right: u16, size: u16, rows: u64, waits: u32) -> [u8; HEAD]
     ensures value { result ≡ head_bytes mark left right size rows waits }
     ensures fits { (left < 2 ^ 16) × (right < 2 ^ 16) × (size < 2 ^ 16) × (rows < 2 ^ 64) × (waits < 2 ^ 32) }
 {
-    let [l0, l1] = left.to_be_bytes();
-    let [r0, r1] = right.to_be_bytes();
-    let [s0, s1] = size.to_be_bytes();
-    let [n0, n1, n2, n3, n4, n5, n6, n7] = rows.to_be_bytes();
-    let [w0, w1, w2, w3] = waits.to_be_bytes();
-    [
-        mark, l0, l1, r0, r1, s0, s1, n0, n1, n2, n3, n4, n5, n6, n7, w0, w1, w2, w3,
-    ]
+    let mut out = [0; HEAD];
+    out[0] = mark;
+    out[1..3].copy_from_slice(&left.to_be_bytes());
+    out[3..5].copy_from_slice(&right.to_be_bytes());
+    out[5..7].copy_from_slice(&size.to_be_bytes());
+    out[7..15].copy_from_slice(&rows.to_be_bytes());
+    out[15..HEAD].copy_from_slice(&waits.to_be_bytes());
+    out
 }
 
 // Writes the bytes of a node over as many; the node can be read back from them.
@@ -102,7 +72,8 @@ pub(crate) fn encode<K: Key>(node: &Node<K>, out: &mut [u8])
         .write_body(&mut out[HEAD + width..HEAD + 2 * width]);
 }
 
-// Writes the bytes of a node over `out`; none, and nothing written, if `out` is not as long as a node.
+// Writes the bytes of a node over `out`; none, and nothing written, if `out` is not as long as a node: the one thing
+// that can be wrong, so there is no error to name.
 pub fn pack<K: Key>(node: &Node<K>, out: &mut [u8]) -> Option<()>
     ensures value { result ≡ pack_answer K.Key.own out.old }
     ensures after { out.new ≡ packed_over K.Key.own node.now out.old }

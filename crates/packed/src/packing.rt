@@ -8,49 +8,45 @@ ghost use Rattle.packed.specs.Rooms.{byte_cells, byte_nodes, room_answer, bytes_
 use crate::layout::{decode, encode, node_width};
 use keys::Key;
 use std::marker::PhantomData;
+use std::ops::Range;
 use store::{Cause, Function, Node, Store, StoreFault, index_of};
 
 // How many nodes there are: as many as fit, and bytes left over belong to none.
 fn count_in<K: Key>(bytes: &[u8]) -> usize
     ensures { result ≡ length bytes.now / node_width K.Key.wide }
 {
-    match node_width::<K>() {
-        Some(width) => bytes.len() / width,
-        None => 0,
-    }
+    node_width::<K>().map_or(0, |width| bytes.len() / width)
 }
 
-// From where to where node n lies in `len` bytes.
-fn room_of<K: Key>(function: Function, n: usize, len: usize) -> Result<(usize, usize), StoreFault>
+// Where node n lies in `len` bytes.
+fn room_of<K: Key>(function: Function, n: usize, len: usize) -> Result<Range<usize>, StoreFault>
     ensures value { result ≡ room_answer function n len (node_width K.Key.wide) }
-    ensures within { IfOk result (λ p. (p.0 < p.1) × (p.1 ≤ len)) }
+    ensures within { IfOk result (λ room. (room.start < room.end) × (room.end ≤ len)) }
 {
-    let Some(width) = node_width::<K>() else {
-        // One node alone would be more than memory can have.
-        return Err(StoreFault {
-            function,
-            node: n,
-            cause: Cause::Outside,
-        });
-    };
+    // Where a width is none, one node alone would be more than memory can have.
+    let width = node_width::<K>().ok_or(StoreFault {
+        function,
+        node: n,
+        cause: Cause::Outside,
+    })?;
     let i = index_of(function, n, len / width)?;
     let from = i * width;
-    Ok((from, from + width))
+    Ok(from..from + width)
 }
 
+// These three stand beside the methods, which hand them the slice: a rule of the project prescribes it.
 fn mark_at<K: Key>(bytes: &[u8], n: usize) -> Result<u8, StoreFault>
     ensures { result ≡ mark_answer (byte_cells K.Key.own bytes.now) n }
 {
-    let (from, to) = room_of::<K>(Function::Mark, n, bytes.len())?;
-    let node = &bytes[from..to];
-    Ok(node[0])
+    let room = room_of::<K>(Function::Mark, n, bytes.len())?;
+    Ok(bytes[room.start])
 }
 
 fn read_at<K: Key>(bytes: &[u8], n: usize) -> Result<Node<K>, StoreFault>
     ensures { result ≡ read_answer (byte_cells K.Key.own bytes.now) n }
 {
-    let (from, to) = room_of::<K>(Function::Read, n, bytes.len())?;
-    Ok(decode(&bytes[from..to]))
+    let room = room_of::<K>(Function::Read, n, bytes.len())?;
+    Ok(decode(&bytes[room]))
 }
 
 fn write_at<K: Key>(bytes: &mut [u8], n: usize, v: &Node<K>) -> Result<(), StoreFault>
@@ -59,8 +55,8 @@ fn write_at<K: Key>(bytes: &mut [u8], n: usize, v: &Node<K>) -> Result<(), Store
     ensures bytes { bytes.new ≡ bytes_after K.Key.own bytes.old n v.now }
     ensures rest { left_over K.Key.own bytes.new ≡ left_over K.Key.own bytes.old }
 {
-    let (from, to) = room_of::<K>(Function::Write, n, bytes.len())?;
-    encode(v, &mut bytes[from..to]);
+    let room = room_of::<K>(Function::Write, n, bytes.len())?;
+    encode(v, &mut bytes[room]);
     Ok(())
 }
 

@@ -1,6 +1,6 @@
 -- What a call does, from the answers of the store that the code has in hand.
-use Rattle.std.proofs.Common.{◌≡◌, ℕ, ◌<◌, ◌≤◌, cond, List, set, Some, None, Ok, Err, Option, Result, sym, refl, ap, ◌∙◌, subst, arith}
-use Rattle.std.proofs.lemmas.Bool.{lt-ltb, le-ltb}
+use Rattle.std.proofs.Common.{◌≡◌, ℕ, Bool, true, false, cond, List, set, Some, None, Ok, Err, Option, Result, sym, refl, ap, ◌∙◌, subst, arith}
+use Rattle.std.specs.Prelude.{nat_lt}
 use Rattle.store.specs.declared.node.Node.{Node}
 use Rattle.store.specs.declared.fault.StoreFault.{StoreFault}
 use Rattle.store.specs.Cells.{Cell, read_answer, write_answer, Written}
@@ -10,7 +10,6 @@ use Rattle.sessions.specs.declared.lookup.Row.{Row}
 use Rattle.sessions.specs.declared.way.Way.{Way}
 use Rattle.sessions.specs.declared.meeting.Met.{Met}
 use Rattle.sessions.specs.declared.meeting.Met.TheVariants.{Blank, Holds, Leads}
-use Rattle.sessions.specs.declared.lookup.State.{State}
 use Rattle.sessions.specs.declared.lookup.State.TheVariants.{Closed, Going}
 use Rattle.sessions.specs.declared.lookup.Call.{Call}
 use Rattle.sessions.specs.declared.lookup.Told.{Told}
@@ -18,7 +17,7 @@ use Rattle.sessions.specs.declared.lookup.Told.TheVariants.{Opened, Ended}
 use Rattle.store.specs.Nodes.{plain}
 use Rattle.sessions.specs.Writings.{Rewritten}
 use Rattle.sessions.specs.Waiting.{release, closed_waiting, all_read}
-use Rattle.sessions.specs.Lookups.{Does, refused, row_with, seat_of, opened, moved_by, found_again, told_again, closed, done_by, row_done, row_of, in_table, session_done}
+use Rattle.sessions.specs.Lookups.{Does, refused, row_with, seat_of, opened, moved_by, found_again, told_again, closed, row_done, row_of, in_table, session_at, session_done}
 use Rattle.sessions.proofs.Rewriting.{nothing_rewritten, only_rewritten, none_rewritten}
 
 module _ {K : Type 0} (filler : K) (row : Row) (s : ℕ) (key : K) (root : ℕ) (cs ds : List (Cell K)) (n : ℕ) (v : Node K) where
@@ -89,27 +88,35 @@ all_read_by (Some n) h = let z : ◌≡◌ {A = ℕ} 0 1 = cc in let w : ⊥ = o
 pub all_were_read : {K : Type 0} (cs : List (Cell K)) → Ok tt ≡ all_read (closed_waiting cs) → closed_waiting cs ≡ None
 all_were_read cs h = all_read_by (closed_waiting cs) h
 
-module _ {K : Type 0} (way : K → K → K → Way) (filler : K) (cs : List (Cell K)) (s : ℕ) (row : Row) (call : Call K) where
-  -- what a call does, where the row's state and the call are known
-  pub acting : (state : State) (known : Call K) (r : Result (Told K) SessionFault) (after : Row) (ds : List (Cell K)) → row.state ≡ state → call ≡ known →
-      Does (done_by way filler cs s state row known) r after cs ds → Does (row_done way filler cs s row call) r after cs ds
-  unfolding row_done
-  acting state known r after ds p q h =
-      subst (λ k. Does (done_by way filler cs s row.state row k) r after cs ds) (sym q)
-      (subst (λ t. Does (done_by way filler cs s t row known) r after cs ds) (sym p) h)
-
 module _ {K : Type 0} (way : K → K → K → Way) (filler : K) (cs : List (Cell K)) (rows : List Row) (s : ℕ) (call : Call K) where
-  pub no_session : 31 < s → Does (session_done way filler cs rows s call) (Err NoSession) rows cs cs
+  -- a number that is no session's
+  pub no_session : (e : SessionFault) (r : Result (Told K) SessionFault) → Err e ≡ session_at s → r ≡ Err e → Does (session_done way filler cs rows s call) r rows cs cs
   unfolding session_done
-  no_session h =
-      subst (λ b. Does (cond b (refused rows NoSession) (in_table rows s (row_done way filler cs s (row_of rows s) call))) (Err NoSession) rows cs cs) (sym (lt-ltb 31 s h))
-      (record { answer = refl; row = refl; cells = nothing_rewritten cs })
+  no_session e r h told = by_number (nat_lt 31 s) h
+    where
+      by_number : (b : Bool) → Err e ≡ cond b (Err NoSession) (Ok s) →
+          Does (cond b (refused rows NoSession) (in_table rows s (row_done way filler cs s (row_of rows s) call))) r rows cs cs
+      by_number true h = let same : e ≡ NoSession = cc in record { answer = told ∙ ap Err same; row = refl; cells = nothing_rewritten cs }
+      by_number false h = let z : ◌≡◌ {A = ℕ} 0 1 = cc in let w : ⊥ = omega arith in elim w [ ]
 
   -- what is done to the row of a session is done to the table
-  pub in_the_table : (ds : List (Cell K)) (r : Result (Told K) SessionFault) (row after : Row) → s ≤ 31 → row ≡ row_of rows s →
-      Does (row_done way filler cs s row call) r after cs ds → Does (session_done way filler cs rows s call) r (set rows s after) cs ds
+  pub in_the_table : (n i : ℕ) (ds : List (Cell K)) (r : Result (Told K) SessionFault) (row after : Row) → Ok n ≡ session_at s → i ≡ n → row ≡ row_of rows i →
+      Does (row_done way filler cs n row call) r after cs ds → Does (session_done way filler cs rows s call) r (set rows i after) cs ds
   unfolding session_done
-  in_the_table ds r row after h is d =
-      let d' : Does (row_done way filler cs s (row_of rows s) call) r after cs ds = subst (λ w. Does (row_done way filler cs s w call) r after cs ds) is d in
-      subst (λ b. Does (cond b (refused rows NoSession) (in_table rows s (row_done way filler cs s (row_of rows s) call))) r (set rows s after) cs ds) (sym (le-ltb 31 s h))
-      (record { answer = d'.answer; row = ap (set rows s) d'.row; cells = d'.cells })
+  in_the_table n i ds r row after h at is d = by_number (nat_lt 31 s) h
+    where
+      by_number : (b : Bool) → Ok n ≡ cond b (Err NoSession) (Ok s) →
+          Does (cond b (refused rows NoSession) (in_table rows s (row_done way filler cs s (row_of rows s) call))) r (set rows i after) cs ds
+      by_number true h = let z : ◌≡◌ {A = ℕ} 0 1 = cc in let w : ⊥ = omega arith in elim w [ ]
+      by_number false h =
+          let same : n ≡ s = cc in
+          let here : i ≡ s = at ∙ same in
+          let d' : Does (row_done way filler cs s (row_of rows s) call) r after cs ds =
+          subst (λ w. Does (row_done way filler cs s w call) r after cs ds) (is ∙ ap (row_of rows) here) (subst (λ m. Does (row_done way filler cs m row call) r after cs ds) same d) in
+          record { answer = d'.answer; row = ap (set rows i) d'.row ∙ ap (λ m. set rows m (row_done way filler cs s (row_of rows s) call).after) here; cells = d'.cells }
+
+-- what the calls of a row need
+pub ruleset row_answers =
+    (opening_refused, opening_taken, refusing, stepping, repeating, closing_refused, closing_taken, never_refused, all_were_read)
+
+pub ruleset table_answers = (no_session, in_the_table)

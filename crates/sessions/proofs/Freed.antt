@@ -1,5 +1,5 @@
 -- After the making the whole pool is free.
-use Rattle.std.proofs.Common.{◌≡◌, ℕ, suc, ◌+◌, ◌-◌, ◌<◌, true, false, cond, eqb, List, [], ◌∷◌, length, get_or, Some, sym, refl, ap, ◌∙◌, subst, inl, inr, suc-le-suc, zero-le, arith}
+use Rattle.std.proofs.Common.{◌≡◌, ℕ, suc, ◌+◌, ◌-◌, ◌<◌, ◌≤◌, true, false, cond, eqb, List, [], ◌∷◌, length, get_or, Some, refl, ap, ◌∙◌, subst, inl, inr, suc-le-suc, zero-le, arith}
 use Rattle.std.proofs.lemmas.List.{get_or-drop, length-drop}
 use Rattle.std.proofs.lemmas.Bool.{lt-leb}
 use Rattle.store.specs.declared.node.Node.{Node}
@@ -9,7 +9,7 @@ use Rattle.sessions.specs.Writings.{nothing_written, CellAfter, Rewritten}
 use Rattle.sessions.specs.Making.{can_make, made_mark, every_node, making, pool, marked}
 use Rattle.sessions.specs.Laws.{Made, MakingLaw}
 use Rattle.sessions.proofs.Makes.{counts_are}
-use Rattle.sessions.proofs.Sweeping.{within, next_cell}
+use Rattle.sessions.proofs.Sweeping.{inside}
 
 module _ {K : Type 0} where
   -- a written cell has the node's mark, closed or not
@@ -49,10 +49,12 @@ module _ {K : Type 0} where
     pool_free : AllFree (pool ds)
     pool_free i lt =
         let long = length-drop 32 ds in
-        let inside : 32 + i < length cs = omega (arith, long, every.count, lt) in
+        let within : 32 + i + 1 ≤ length cs = omega (arith, long, every.count, lt) in
+        let some : 0 < 32 + i + 1 = omega arith in
+        let back : 32 + i ≡ 32 + i + 1 - 1 = omega arith in
         let above : 32 < 32 + i + 1 = omega arith in
-        ap mark_of (get_or-drop 32 ds i (shut 0) ∙ sym (next_cell ds (32 + i)))
-        ∙ marks (32 + i + 1) (within (32 + i) (length cs) inside)
+        ap mark_of (get_or-drop 32 ds i (shut 0) ∙ ap (λ j. get_or ds j (shut 0)) back)
+        ∙ marks (32 + i + 1) (inside (32 + i + 1) (length cs) some within)
         ∙ ap (λ b. cond b 3 0) (lt-leb (32 + i + 1) 32 above)
 
     pub made_law : Made cs ds

@@ -1,8 +1,8 @@
 -- The laws of the sessions.
 use Rattle.std.proofs.Common.{◌≡◌, ℕ, ◌<◌, Bool, true, false, cond, ◌&&◌, eqb, ltb, ◌≢◌, ◌⊎◌, List, length, Some, None, Ok, Option, sym, refl, ap, ◌∙◌, subst, inl, inr, arith}
 use Rattle.std.proofs.lemmas.Bool.{lt-ltb, ltb-true}
-use Rattle.keys.specs.declared.order.Order.{Order}
-use Rattle.keys.specs.declared.order.Order.TheVariants.{Below, Same, Above}
+use Rattle.std.specs.declared.cmp.Ordering.{Ordering}
+use Rattle.std.specs.declared.cmp.Ordering.TheVariants.{Less, Equal, Greater}
 use Rattle.store.specs.declared.node.Node.{Node}
 use Rattle.store.specs.Faults.{outside}
 use Rattle.store.specs.Cells.{Cell, shut, readable, cell_at}
@@ -14,21 +14,21 @@ use Rattle.sessions.proofs.Bits.{bit_stays, bit_goes}
 
 -- THE WAY AT A NODE
 
-module _ {K F : Type 0} (fault : K → Option F) (order : K → K → Order) (key low high : K) where
-  not_same : (o : Order) → o ≡ Same → o ≢ Below
+module _ {K F : Type 0} (fault : K → Option F) (order : K → K → Ordering) (key low high : K) where
+  not_same : (o : Ordering) → o ≡ Equal → o ≢ Less
   not_same o e q = let z : ◌≡◌ {A = ℕ} 0 1 = cc in omega arith
 
-  not_above : (o : Order) → o ≡ Above → o ≢ Below
+  not_above : (o : Ordering) → o ≡ Greater → o ≢ Less
   not_above o e q = let z : ◌≡◌ {A = ℕ} 0 1 = cc in omega arith
 
-  by_orders : (a b : Order) → order key low ≡ a → order key high ≡ b → WaySays order key low high (way_by {F = F} (Ok a) (Ok b))
-  by_orders Below b p q = p
-  by_orders Same Below p q = (not_same (order key low) p, q)
-  by_orders Same Same p q = (not_same (order key low) p, not_same (order key high) q)
-  by_orders Same Above p q = (not_same (order key low) p, not_above (order key high) q)
-  by_orders Above Below p q = (not_above (order key low) p, q)
-  by_orders Above Same p q = (not_above (order key low) p, not_same (order key high) q)
-  by_orders Above Above p q = (not_above (order key low) p, not_above (order key high) q)
+  by_orders : (a b : Ordering) → order key low ≡ a → order key high ≡ b → WaySays order key low high (way_by {F = F} (Ok a) (Ok b))
+  by_orders Less b p q = p
+  by_orders Equal Less p q = (not_same (order key low) p, q)
+  by_orders Equal Equal p q = (not_same (order key low) p, not_same (order key high) q)
+  by_orders Equal Greater p q = (not_same (order key low) p, not_above (order key high) q)
+  by_orders Greater Less p q = (not_above (order key low) p, q)
+  by_orders Greater Equal p q = (not_above (order key low) p, not_same (order key high) q)
+  by_orders Greater Greater p q = (not_above (order key low) p, not_above (order key high) q)
 
   pub way_tells : fault key ≡ None → fault low ≡ None → fault high ≡ None → WaySays order key low high (way_of fault order key low high)
   unfolding way_of

@@ -8,10 +8,10 @@ use Rattle.store.specs.declared.fault.Function.TheVariants.{Read}
 use Rattle.store.specs.declared.fault.Cause.TheVariants.{Closed}
 use Rattle.store.specs.Faults.{fault_at}
 use Rattle.store.specs.Cells.{Cell, shut, readable, cell_at, mark_of, shown, Written}
-use Rattle.store.proofs.Insides.{mark_inside, read_inside}
+use Rattle.store.proofs.Insides.{count_is, mark_inside, read_inside}
 use Rattle.sessions.specs.Writings.{Rewritten}
 use Rattle.sessions.specs.Waiting.{bit, without_bit, waiting_for, released, release, waiting_marked, waiting_at, closed_at, first_closed, closed_waiting, all_read}
-use Rattle.sessions.proofs.Sweeping.{within, next_cell, next_drop, upto, sweep_writes, sweep_passes, sweep_meets}
+use Rattle.sessions.proofs.Sweeping.{inside, next_drop, upto, sweep_writes, sweep_passes, sweep_meets}
 
 module _ {K : Type 0} where
   -- what is answered of a waiting node, from its cell
@@ -23,17 +23,16 @@ module _ {K : Type 0} where
   by_cell n (shut m) = refl
   by_cell n (readable v) = refl
 
-  waiting_inside : (cs : List (Cell K)) (i : ℕ) → i < length cs → waiting_at cs (i + 1) ≡ waiting_cell (i + 1) (cell_at cs (i + 1))
+  waiting_inside : (cs : List (Cell K)) (n : ℕ) → 0 < n → n ≤ length cs → waiting_at cs n ≡ waiting_cell n (cell_at cs n)
   unfolding waiting_at
-  waiting_inside cs i h =
-      let e = within i (length cs) h in
-      rw (mark_inside cs (i + 1) e, read_inside cs (i + 1) e) (by_cell (i + 1) (cell_at cs (i + 1)))
+  waiting_inside cs n some h =
+      let e = inside n (length cs) some h in
+      rw (mark_inside cs n e, read_inside cs n e) (by_cell n (cell_at cs n))
 
   -- THE READING
 
-  closed_next : (cs : List (Cell K)) (i : ℕ) → i < length cs →
-      first_closed (i + 1) (drop i cs) ≡ closed_at (i + 1) (cell_at cs (i + 1)) (first_closed (i + 1 + 1) (drop (i + 1) cs))
-  closed_next cs i h = ap (first_closed (i + 1)) (next_drop cs i h)
+  closed_next : (cs : List (Cell K)) (n : ℕ) → 0 < n → n ≤ length cs → first_closed n (drop (n - 1) cs) ≡ closed_at n (cell_at cs n) (first_closed (n + 1) (drop n cs))
+  closed_next cs n some h = ap (first_closed n) (next_drop cs n some h)
 
   passes_by : (b : Bool) (n : ℕ) (o : Option (Node K)) (e : StoreFault) (rest : Option ℕ) → Ok o ≡ cond b (Err e) (Ok None) → cond b (Some n) rest ≡ rest
   passes_by true n o e rest h = let z : ◌≡◌ {A = ℕ} 0 1 = cc in let w : ⊥ = omega arith in elim w [ ]
@@ -55,24 +54,28 @@ module _ {K : Type 0} where
   stops (shut m) n x rest h = stops_shut (eqb m 2) n x (fault_at Read n Closed) rest h
   stops (readable v) n x rest h = let w : ⊥ = never_stops (eqb v.mark 2) x v h in elim w [ ]
 
-  -- the closed waiting node, if any, is still to come
-  abbrev LeftToRead : List (Cell K) → ℕ → Type 0
-  LeftToRead cs i = first_closed (i + 1) (drop i cs) ≡ closed_waiting cs
-
   pub reading_starts : (cs : List (Cell K)) → first_closed 33 (drop 32 cs) ≡ closed_waiting cs
   unfolding closed_waiting
   reading_starts cs = refl
 
-  pub reading_goes_on : (cs : List (Cell K)) (i : ℕ) (o : Option (Node K)) → i < length cs → Ok o ≡ waiting_at cs (i + 1) → LeftToRead cs i → LeftToRead cs (i + 1)
-  reading_goes_on cs i o h e was = sym (passes (cell_at cs (i + 1)) (i + 1) o _ (e ∙ waiting_inside cs i h)) ∙ sym (closed_next cs i h) ∙ was
+  -- the closed waiting node, if any, is still to come
+  pub reading_goes_on : (cs : List (Cell K)) (n : ℕ) (o : Option (Node K)) → 0 < n → n ≤ length cs → Ok o ≡ waiting_at cs n →
+      first_closed n (drop (n - 1) cs) ≡ closed_waiting cs → (m : ℕ) → m ≡ n → first_closed (n + 1) (drop m cs) ≡ closed_waiting cs
+  reading_goes_on cs n o some h e was m same =
+      ap (λ k. first_closed (n + 1) (drop k cs)) same ∙ sym (passes (cell_at cs n) n o _ (e ∙ waiting_inside cs n some h)) ∙ sym (closed_next cs n some h) ∙ was
 
-  pub reading_stops : (cs : List (Cell K)) (i : ℕ) (x : StoreFault) → i < length cs → Err x ≡ waiting_at cs (i + 1) → LeftToRead cs i → Err x ≡ all_read (closed_waiting cs)
-  reading_stops cs i x h e was =
-      let p = stops (cell_at cs (i + 1)) (i + 1) x (first_closed (i + 1 + 1) (drop (i + 1) cs)) (e ∙ waiting_inside cs i h) in
-      ap Err p.1 ∙ ap all_read (sym p.0 ∙ sym (closed_next cs i h) ∙ was)
+  pub reading_stops : (cs : List (Cell K)) (n : ℕ) (x : StoreFault) → 0 < n → n ≤ length cs → Err x ≡ waiting_at cs n →
+      first_closed n (drop (n - 1) cs) ≡ closed_waiting cs → Err x ≡ all_read (closed_waiting cs)
+  reading_stops cs n x some h e was =
+      let p = stops (cell_at cs n) n x (first_closed (n + 1) (drop n cs)) (e ∙ waiting_inside cs n some h) in
+      ap Err p.1 ∙ ap all_read (sym p.0 ∙ sym (closed_next cs n some h) ∙ was)
 
-  pub reading_ends : (cs : List (Cell K)) (i : ℕ) → length cs ≤ i → LeftToRead cs i → Ok tt ≡ all_read (closed_waiting cs)
-  reading_ends cs i h was = ap all_read (sym (ap (first_closed (i + 1)) (drop_all i cs h)) ∙ was)
+  pub reading_ends : (cs : List (Cell K)) (n k : ℕ) → length cs ≤ k → first_closed n (drop k cs) ≡ closed_waiting cs → Ok tt ≡ all_read (closed_waiting cs)
+  reading_ends cs n k h was = ap all_read (sym (ap (first_closed n) (drop_all k cs h)) ∙ was)
+
+  pub reading_last : (cs : List (Cell K)) (n : ℕ) (o : Option (Node K)) → 0 < n → n ≤ length cs → length cs ≤ n → Ok o ≡ waiting_at cs n →
+      first_closed n (drop (n - 1) cs) ≡ closed_waiting cs → Ok tt ≡ all_read (closed_waiting cs)
+  reading_last cs n o some h long e was = reading_ends cs (n + 1) n long (reading_goes_on cs n o some h e was n refl)
 
   -- THE RELEASE
 
@@ -98,12 +101,12 @@ module _ {K : Type 0} where
   none_closed (c ∷ cs) n (suc j) k e = none_closed cs (n + 1) j k (open_tail c n (first_closed (n + 1) cs) e)
 
   -- no waiting node of the pool is closed
-  none_closed_at : (cs : List (Cell K)) (i k : ℕ) → 32 ≤ i → closed_waiting cs ≡ None → closed_at k (cell_at cs (i + 1)) None ≡ None
+  none_closed_at : (cs : List (Cell K)) (n k : ℕ) → 32 < n → closed_waiting cs ≡ None → closed_at k (cell_at cs n) None ≡ None
   unfolding closed_waiting
-  none_closed_at cs i k h e =
-      let same : 32 + (i - 32) ≡ i = omega arith in
-      subst (λ c. closed_at k c None ≡ None) (get_or-drop 32 cs (i - 32) (shut 0) ∙ ap (λ j. get_or cs j (shut 0)) same ∙ sym (next_cell cs i))
-      (none_closed (drop 32 cs) 33 (i - 32) k e)
+  none_closed_at cs n k h e =
+      let same : 32 + (n - 33) ≡ n - 1 = omega arith in
+      subst (λ c. closed_at k c None ≡ None) (get_or-drop 32 cs (n - 33) (shut 0) ∙ ap (λ j. get_or cs j (shut 0)) same)
+      (none_closed (drop 32 cs) 33 (n - 33) k e)
 
   not_waiting : (s n : ℕ) (c : Cell K) → Ok None ≡ waiting_cell n c → released s c ≡ None
   not_waiting s n (shut m) e = refl
@@ -126,37 +129,43 @@ module _ {K : Type 0} where
       by_mark true e = let same : u ≡ v = cc in ap (λ x. cond (bit s x.waits) (Some (waiting_for (without_bit s x.waits) x)) None) same
       by_mark false e = let z : ◌≡◌ {A = ℕ} 0 1 = cc in let w : ⊥ = omega arith in elim w [ ]
 
-  in_pool : (s : ℕ) (cs : List (Cell K)) (i : ℕ) → 32 ≤ i → release s cs (i + 1) ≡ released s (cell_at cs (i + 1))
-  in_pool s cs i h = let lt : 32 < i + 1 = omega arith in rw (lt-ltb 32 (i + 1) lt)
+  in_pool : (s : ℕ) (cs : List (Cell K)) (n : ℕ) → 32 < n → release s cs n ≡ released s (cell_at cs n)
+  in_pool s cs n lt = rw (lt-ltb 32 n lt)
 
-  module _ (s : ℕ) (cs ds : List (Cell K)) (i : ℕ) (pooled : 32 ≤ i) (h : i < length cs) (was : Rewritten (upto i (release s cs)) cs ds) where
-    still : waiting_at ds (i + 1) ≡ waiting_cell (i + 1) (cell_at cs (i + 1))
+  module _ (s : ℕ) (cs ds : List (Cell K)) (n : ℕ) (pooled : 32 < n) (h : n ≤ length cs) (was : Rewritten (upto (n - 1) (release s cs)) cs ds) where
+    some : 0 < n
+    some = omega arith
+
+    still : waiting_at ds n ≡ waiting_cell n (cell_at cs n)
     still =
-        let k : i < length ds = omega (arith, was.count) in
-        waiting_inside ds i k ∙ ap (waiting_cell (i + 1)) (sweep_meets (release s cs) i cs ds h was)
+        let k : n ≤ length ds = omega (arith, was.count) in
+        waiting_inside ds n some k ∙ ap (waiting_cell n) (sweep_meets (release s cs) n some cs ds was h)
 
-    pub release_reads : (x : StoreFault) → closed_waiting cs ≡ None → Err x ≡ waiting_at ds (i + 1) → ⊥
+    pub release_reads : (x : StoreFault) → closed_waiting cs ≡ None → Err x ≡ waiting_at ds n → ⊥
     release_reads x none e =
-        let p = stops (cell_at cs (i + 1)) (i + 1) x None (e ∙ still) in
-        let q = none_closed_at cs i (i + 1) pooled none in
+        let p = stops (cell_at cs n) n x None (e ∙ still) in
+        let q = none_closed_at cs n n pooled none in
         let z : ◌≡◌ {A = ℕ} 0 1 = cc (p.0, q) in
         omega arith
 
-    pub release_passes : Ok None ≡ waiting_at ds (i + 1) → Rewritten (upto (i + 1) (release s cs)) cs ds
-    release_passes e = sweep_passes (release s cs) i cs ds (in_pool s cs i pooled ∙ not_waiting s (i + 1) (cell_at cs (i + 1)) (e ∙ still)) was
+    pub release_passes : Ok None ≡ waiting_at ds n → Rewritten (upto n (release s cs)) cs ds
+    release_passes e = sweep_passes (release s cs) n some cs ds was (in_pool s cs n pooled ∙ not_waiting s n (cell_at cs n) (e ∙ still))
 
-    by_bit : (v : Node K) (b : Bool) → Ok (Some v) ≡ waiting_at ds (i + 1) → bit s v.waits ≡ b →
-        release s cs (i + 1) ≡ cond b (Some (waiting_for (without_bit s v.waits) v)) None
+    by_bit : (v : Node K) (b : Bool) → Ok (Some v) ≡ waiting_at ds n → bit s v.waits ≡ b →
+        release s cs n ≡ cond b (Some (waiting_for (without_bit s v.waits) v)) None
     by_bit v b e t =
-        in_pool s cs i pooled ∙ waiting_is s (i + 1) (cell_at cs (i + 1)) v (e ∙ still)
+        in_pool s cs n pooled ∙ waiting_is s n (cell_at cs n) v (e ∙ still)
         ∙ ap (λ x. cond x (Some (waiting_for (without_bit s v.waits) v)) None) t
 
-    pub release_leaves : (v : Node K) → Ok (Some v) ≡ waiting_at ds (i + 1) → bit s v.waits ≡ false → Rewritten (upto (i + 1) (release s cs)) cs ds
-    release_leaves v e t = sweep_passes (release s cs) i cs ds (by_bit v false e t) was
+    pub release_leaves : (v : Node K) → Ok (Some v) ≡ waiting_at ds n → bit s v.waits ≡ false → Rewritten (upto n (release s cs)) cs ds
+    release_leaves v e t = sweep_passes (release s cs) n some cs ds was (by_bit v false e t)
 
-    pub release_writes : (es : List (Cell K)) (u v : Node K) → Ok (Some v) ≡ waiting_at ds (i + 1) → bit s v.waits ≡ true → u ≡ waiting_for (without_bit s v.waits) v →
-        Written ds (i + 1) u es → Rewritten (upto (i + 1) (release s cs)) cs es
-    release_writes es u v e t is wrote = sweep_writes (release s cs) i cs ds es u h was (by_bit v true e t ∙ ap Some (sym is)) wrote
+    pub release_writes : (es : List (Cell K)) (u v : Node K) → Ok (Some v) ≡ waiting_at ds n → bit s v.waits ≡ true → u ≡ waiting_for (without_bit s v.waits) v →
+        Written ds n u es → Rewritten (upto n (release s cs)) cs es
+    release_writes es u v e t is wrote = sweep_writes (release s cs) n some cs ds was es u h (by_bit v true e t ∙ ap Some (sym is)) wrote
 
   pub release_starts : (s : ℕ) (cs : List (Cell K)) (n : ℕ) → n ≤ 32 → release s cs n ≡ None
   release_starts s cs n h = rw (le-ltb 32 n h)
+
+-- what the reading of every waiting node needs
+pub ruleset reading_answers = (count_is, reading_starts, reading_goes_on, reading_stops, reading_last, reading_ends)

@@ -1,7 +1,7 @@
 -- What the calls of a session mean, beyond what each does: laws over every store and every key.
 use Rattle.std.specs.Prelude.{◌≡◌, ℕ, ◌-◌, ◌<◌, true, false, cond, ◌≢◌, List, length, Some, None, Ok, Option, ◌==◌}
-use Rattle.keys.specs.declared.order.Order.{Order}
-use Rattle.keys.specs.declared.order.Order.TheVariants.{Below}
+use Rattle.std.specs.declared.cmp.Ordering.{Ordering}
+use Rattle.std.specs.declared.cmp.Ordering.TheVariants.{Less}
 use Rattle.store.specs.declared.node.Node.{Node}
 use Rattle.store.specs.Faults.{outside}
 use Rattle.store.specs.Cells.{Cell, readable, cell_at, mark_of, read_answer}
@@ -20,12 +20,12 @@ use Rattle.sessions.specs.Making.{can_make, made_mark, making, pool_counts}
 
 -- A NODE: what each way says of a key at a region from low to high, all three well formed
 
-abbrev pub WaySays : {K : Type 0} → (K → K → Order) → K → K → K → Way → Type 0
-WaySays order key low high Left = order key low ≡ Below
-WaySays order key low high Here = (order key low ≢ Below) × (order key high ≡ Below)
-WaySays order key low high Right = (order key low ≢ Below) × (order key high ≢ Below)
+abbrev pub WaySays : {K : Type 0} → (K → K → Ordering) → K → K → K → Way → Type 0
+WaySays order key low high Left = order key low ≡ Less
+WaySays order key low high Here = (order key low ≢ Less) × (order key high ≡ Less)
+WaySays order key low high Right = (order key low ≢ Less) × (order key high ≢ Less)
 
-abbrev pub WaysTell : {K F : Type 0} → (K → Option F) → (K → K → Order) → Type 0
+abbrev pub WaysTell : {K F : Type 0} → (K → Option F) → (K → K → Ordering) → Type 0
 WaysTell {K} fault order =
     (key low high : K) → fault key ≡ None → fault low ≡ None → fault high ≡ None → WaySays order key low high (way_of fault order key low high)
 

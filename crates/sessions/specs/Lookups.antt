@@ -50,6 +50,10 @@ row_with s p n = record { state = s; place = p; steps = n }
 abbrev pub more : ℕ → ℕ
 more n = min (n + 1) 18446744073709551615
 
+-- the session of a number: there are the sessions 0 to 31
+abbrev pub session_at : ℕ → Result ℕ SessionFault
+session_at n = cond (nat_lt 31 n) (Err NoSession) (Ok n)
+
 -- the number of a session's seat
 abbrev pub seat_of : ℕ → ℕ
 seat_of s = s + 1

@@ -1,5 +1,7 @@
 -- The making of a catalogue, and the counts of its pool: nodes 1 to 32 are the seats of sessions 0 to 31, the others are the pool.
-use Rattle.std.specs.Prelude.{ℕ, ◌+◌, Bool, cond, ◌&&◌, List, [], ◌∷◌, drop, Some, ◌==◌, nat_le}
+use Rattle.std.specs.Prelude.{ℕ, ◌+◌, Bool, cond, ◌&&◌, List, [], ◌∷◌, drop, Some, Ok, Err, Result, ◌==◌, nat_le}
+use Rattle.sessions.specs.declared.fault.MakeFault.{MakeFault}
+use Rattle.sessions.specs.declared.fault.MakeFault.TheVariants.{Size}
 use Rattle.store.specs.Cells.{Cell, mark_of}
 use Rattle.sessions.specs.declared.pool.Counts.{Counts}
 use Rattle.store.specs.Nodes.{plain}
@@ -8,6 +10,10 @@ use Rattle.sessions.specs.Writings.{Writing, nothing_written}
 -- whether a catalogue can be made of N nodes
 abbrev pub can_make : ℕ → Bool
 can_make N = nat_le 160 N && nat_le N 4096
+
+-- what the making of N nodes answers
+abbrev pub make_answer : ℕ → Result (Unit {0}) MakeFault
+make_answer N = cond (can_make N) (Ok tt) (Err (Size N))
 
 -- the mark of node n at the making: a seat or free
 abbrev pub made_mark : ℕ → ℕ

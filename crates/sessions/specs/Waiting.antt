@@ -4,6 +4,7 @@ use Rattle.store.specs.declared.node.Node.{Node}
 use Rattle.store.specs.declared.fault.StoreFault.{StoreFault}
 use Rattle.store.specs.declared.fault.Function.TheVariants.{Read}
 use Rattle.store.specs.declared.fault.Cause.TheVariants.{Closed}
+use Rattle.store.specs.Nodes
 use Rattle.store.specs.Faults.{fault_at}
 use Rattle.store.specs.Cells.{Cell, shut, readable, cell_at, mark_answer, read_answer}
 use Rattle.sessions.specs.Writings.{Writing}
@@ -18,12 +19,11 @@ without_bit s w = bit_xor w (2 ^ s)
 
 -- the mark of a node that waits for the sessions w: free where there are none
 abbrev pub waiting_mark : ℕ → ℕ
-waiting_mark w = cond (w == 0) 0 2
+waiting_mark w = Nodes.waiting_mark w
 
 -- the node v, waiting for the sessions w
 abbrev pub waiting_for : {K : Type 0} → ℕ → Node K → Node K
-waiting_for w v =
-    record { mark = waiting_mark w; left = v.left; right = v.right; size = v.size; rows = v.rows; waits = w; low = v.low; high = v.high }
+waiting_for w v = Nodes.waiting w v
 
 -- whether a node waits for session s
 abbrev pub waits_for : {K : Type 0} → ℕ → Node K → Bool

@@ -1,17 +1,18 @@
 // The row of one session, and what is told of its lookup.
-ghost use Rattle.std.specs.Prelude.{◌≡◌, ◌<◌, Ok};
+ghost use Rattle.std.specs.Prelude.{◌≡◌, Ok};
 ghost use Rattle.store.specs.Cells.{write_answer};
 ghost use Rattle.store.specs.Nodes.{link_number};
 ghost use Rattle.sessions.specs.Ways.{way_of};
 ghost use Rattle.sessions.specs.declared.lookup.State.TheVariants.{Going};
-ghost use Rattle.sessions.specs.Lookups.{row_with, seat_of, opened, moved, moved_by, met_at, told_again, closed, row_done, Does};
+ghost use Rattle.sessions.specs.Lookups.{row_with, seat_of, opened, moved, moved_by, met_at, told_again, closed, row_done, Does, is_open};
 ghost use Rattle.sessions.specs.Waiting.{closed_waiting};
 
 use crate::fault::SessionFault;
 use crate::meeting::{Met, met_at};
+use crate::session::Session;
 use crate::waiting::{read_waiting, release};
 use keys::Key;
-use store::{Region, SEAT, Store, linked, plain_node, region_of};
+use store::{Node, Region, SEAT, Store, linked};
 
 // Closed: the session has no lookup. Going: its lookup has told nothing yet. Answered: a step has told found or none.
 #[derive(Clone, Copy, PartialEq, Eq, Debug)]
@@ -21,7 +22,18 @@ pub enum State {
     Answered,
 }
 
-#[derive(Clone, Copy)]
+impl State {
+    // Whether a lookup is open; an answered one is.
+    pub fn is_open(self) -> bool
+        ensures { result ≡ is_open self }
+    {
+        matches!(self, State::Going | State::Answered)
+    }
+}
+
+// The state stands beside the place and the steps, and does not hold them: the rules prescribe a row of these three,
+// whose state alone says which calls it takes.
+#[derive(Clone, Copy, PartialEq, Eq, Debug)]
 pub struct Row {
     pub state: State,
     // The node that the lookup has come to; 0 is none. Once answered: the node that was found, or 0.
@@ -30,8 +42,8 @@ pub struct Row {
     pub steps: u64,
 }
 
-// What a node says of its region, passed along whole.
-#[derive(Clone, Copy)]
+// What a session is asked. An enum of its own beside the calls of a catalogue: an open brings the root link here, and no other call belongs.
+#[derive(Clone, Copy, PartialEq, Eq, Debug)]
 pub enum Call<K> {
     Open { key: K, root: u16 },
     Step,
@@ -39,7 +51,7 @@ pub enum Call<K> {
 }
 
 // What an accepted call tells.
-#[derive(Clone, Copy)]
+#[derive(Clone, Copy, PartialEq, Eq, Debug)]
 pub enum Told<K> {
     // Of open.
     Opened,
@@ -53,13 +65,7 @@ pub enum Told<K> {
     Ended,
 }
 
-// The node that is a session's seat.
-fn seat_of(session: u8) -> usize
-    ensures { result ≡ seat_of session }
-{
-    session as usize + 1
-}
-
+#[tactic(auto, using(crate::proofs::Acting::row_answers))]
 impl Row {
     // A lookup that has made no step, at the root link.
     fn started(root: u16) -> Row
@@ -76,7 +82,7 @@ impl Row {
     fn open<S: Store>(
         &mut self,
         store: &mut S,
-        session: u8,
+        session: Session,
         key: &S::Key,
         root: u16,
     ) -> Result<Told<S::Key>, SessionFault>
@@ -84,7 +90,7 @@ impl Row {
         ensures keeps { S.Store.fit store.old → S.Store.fit store.new }
     {
         let filler = <S::Key as Key>::filler();
-        store.write(seat_of(session), &plain_node(SEAT, *key, filler))?;
+        store.write(session.seat(), &Node::plain(SEAT, *key, filler))?;
         *self = Row::started(root);
         Ok(Told::Opened)
     }
@@ -115,11 +121,11 @@ impl Row {
     }
 
     // A step while going.
-    fn go<S: Store>(&mut self, store: &S, session: u8) -> Result<Told<S::Key>, SessionFault>
+    fn go<S: Store>(&mut self, store: &S, session: Session) -> Result<Told<S::Key>, SessionFault>
         ensures answer { result ≡ (moved_by self.old (met_at (way_of S.Key.Ordered.fault S.Key.Ordered.order) (S.Store.cells store.now) (seat_of session) (link_number self.old.place))).answer }
         ensures after { self.new ≡ (moved_by self.old (met_at (way_of S.Key.Ordered.fault S.Key.Ordered.order) (S.Store.cells store.now) (seat_of session) (link_number self.old.place))).after }
     {
-        let met = met_at(store, seat_of(session), self.place)?;
+        let met = met_at(store, session.seat(), self.place)?;
         Ok(self.moved(met))
     }
 
@@ -133,7 +139,7 @@ impl Row {
             Some(n) => {
                 let node = store.read(n as usize)?;
                 Ok(Told::Found {
-                    region: region_of(&node),
+                    region: node.region(),
                     steps,
                 })
             }
@@ -141,8 +147,11 @@ impl Row {
     }
 
     // Nothing changes where a waiting node cannot be read; else the session is closed and no node waits for it.
-    fn close<S: Store>(&mut self, store: &mut S, session: u8) -> Result<Told<S::Key>, SessionFault>
-        requires { session < 32 }
+    fn close<S: Store>(
+        &mut self,
+        store: &mut S,
+        session: Session,
+    ) -> Result<Told<S::Key>, SessionFault>
         ensures does { Does (closed (S.Store.cells store.old) self.old session (closed_waiting (S.Store.cells store.old))) result self.new (S.Store.cells store.old) (S.Store.cells store.new) }
         ensures keeps { S.Store.fit store.old → S.Store.fit store.new }
     {
@@ -152,14 +161,14 @@ impl Row {
         Ok(Told::Ended)
     }
 
-    // What a call does to the row of its session, by the row's state.
+    // What a call does to the row of its session, by the row's state. No arms are joined: a proof knows nothing of the pair in an arm of several.
+    #[tactic(auto, using(crate::proofs::Acting::row_answers), unfolding(crate::specs::Lookups::row_done))]
     pub(crate) fn act<S: Store>(
         &mut self,
         store: &mut S,
-        session: u8,
+        session: Session,
         call: Call<S::Key>,
     ) -> Result<Told<S::Key>, SessionFault>
-        requires { session < 32 }
         ensures does { Does (row_done (way_of S.Key.Ordered.fault S.Key.Ordered.order) S.Key.Key.blank (S.Store.cells store.old) session self.old call) result self.new (S.Store.cells store.old) (S.Store.cells store.new) }
         ensures keeps { S.Store.fit store.old → S.Store.fit store.new }
     {

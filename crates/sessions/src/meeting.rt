@@ -5,8 +5,9 @@ ghost use Rattle.sessions.specs.Ways.{way_of};
 ghost use Rattle.sessions.specs.Lookups.{met_link, met_by, met_at};
 
 use crate::way::{Way, way_at};
-use store::{Node, Region, Store, StoreFault, linked, region_of};
+use store::{Node, Region, Store, StoreFault, linked};
 
+#[derive(Clone, Copy, PartialEq, Eq, Debug)]
 pub enum Met<K> {
     // No node: no region holds the key.
     Blank,
@@ -19,10 +20,9 @@ pub enum Met<K> {
 fn met_link<K: Copy>(link: u16) -> Met<K>
     ensures { result ≡ met_link link }
 {
-    if link == 0 {
-        Met::Blank
-    } else {
-        Met::Leads(link)
+    match linked(link) {
+        None => Met::Blank,
+        Some(n) => Met::Leads(n),
     }
 }
 
@@ -31,7 +31,7 @@ fn met_by<K: Copy>(way: Way, node: &Node<K>) -> Met<K>
 {
     match way {
         Way::Left => met_link(node.left),
-        Way::Here => Met::Holds(region_of(node)),
+        Way::Here => Met::Holds(node.region()),
         Way::Right => met_link(node.right),
     }
 }

@@ -2,26 +2,17 @@
 ghost use Rattle.std.specs.Prelude.{◌≡◌, replicate};
 ghost use Rattle.sessions.specs.declared.lookup.State.TheVariants.{Closed};
 ghost use Rattle.sessions.specs.Ways.{way_of};
-ghost use Rattle.sessions.specs.Lookups.{row_with, session_done, Does, is_open, open_upto};
+ghost use Rattle.sessions.specs.Lookups.{row_with, session_done, Does, open_upto};
 
 use crate::fault::SessionFault;
 use crate::lookup::{Call, Row, State, Told};
+use crate::pool::SEATS;
+use crate::session::Session;
 use store::Store;
 
 #[derive(Drop)]
 pub struct Sessions {
-    rows: [Row; 32],
-}
-
-// Whether a lookup is open; an answered one is.
-fn is_open(state: State) -> bool
-    ensures { result ≡ is_open state }
-{
-    match state {
-        State::Closed => false,
-        State::Going => true,
-        State::Answered => true,
-    }
+    rows: [Row; SEATS],
 }
 
 impl Sessions {
@@ -34,7 +25,7 @@ impl Sessions {
                 state: State::Closed,
                 place: 0,
                 steps: 0,
-            }; 32],
+            }; SEATS],
         }
     }
 
@@ -42,18 +33,17 @@ impl Sessions {
     pub fn open_bits(&self) -> u32
         ensures { result ≡ open_upto self.now.rows 32 }
     {
-        let mut sum: u64 = 0;
-        let mut bit: u64 = 1;
-        for s in 0..32 {
-            if is_open(self.rows[s].state) {
-                sum += bit;
+        let mut bits = 0;
+        for (s, row) in self.rows.iter().enumerate() {
+            if row.state.is_open() {
+                bits |= 1 << s;
             }
-            bit *= 2;
         }
-        sum as u32
+        bits
     }
 
     // Open, step or close of one session, over the store that has its seat.
+    #[tactic(auto, using(crate::proofs::Acting::table_answers), unfolding(crate::specs::Lookups::session_done))]
     pub fn act<S: Store>(
         &mut self,
         store: &mut S,
@@ -63,10 +53,8 @@ impl Sessions {
         ensures does { Does (session_done (way_of S.Key.Ordered.fault S.Key.Ordered.order) S.Key.Key.blank (S.Store.cells store.old) self.old.rows session call) result self.new.rows (S.Store.cells store.old) (S.Store.cells store.new) }
         ensures keeps { S.Store.fit store.old → S.Store.fit store.new }
     {
-        if session > 31 {
-            return Err(SessionFault::NoSession);
-        }
-        let row = &mut self.rows[session as usize];
+        let session = Session::try_from(session)?;
+        let row = &mut self.rows[session.index()];
         row.act(store, session, call)
     }
 }

@@ -1,8 +1,8 @@
 -- What a guard's cells answer, from what the cells below it answer.
-use Rattle.std.proofs.Common.{◌≡◌, ℕ, ◌-◌, Bool, true, false, cond, eqb, ◌⊎◌, List, length, set, Ok, Err, Result, sym, refl, ap, ◌∙◌, inl, inr}
+use Rattle.std.proofs.Common.{◌≡◌, ℕ, ◌-◌, Bool, true, false, cond, eqb, ◌≢◌, ◌⊎◌, List, length, set, Ok, Err, Result, sym, refl, ap, ◌∙◌, inl, inr}
 use lib.ListN.{length-map, get_or-map}
 use Rattle.std.proofs.lemmas.List.{map-set}
-use Rattle.std.proofs.lemmas.Bool.{eqb-true}
+use Rattle.std.proofs.lemmas.Bool.{eqb-true, eq-eqb, ne_eqb}
 use Rattle.store.specs.declared.node.Node.{Node}
 use Rattle.store.specs.declared.fault.StoreFault.{StoreFault}
 use Rattle.store.specs.declared.fault.Function.TheVariants.{Read}
@@ -59,11 +59,11 @@ module _ {K : Type 0} where
   unfolding read_answer
   read_guarded cs n = rw (guarded_length cs, guarded_at cs n) (by_side (outside n (length cs)) (cell_at cs n) n)
 
-  pub read_closed : (cs : List (Cell K)) (n : ℕ) (v : Node K) → Ok v ≡ read_answer cs n → eqb v.mark 0 ≡ true → Err (fault_at Read n Closed) ≡ read_answer (guarded cs) n
-  read_closed cs n v h e = rw (read_guarded cs n, ← h, e)
+  pub read_closed : (cs : List (Cell K)) (n : ℕ) (v : Node K) → Ok v ≡ read_answer cs n → v.mark ≡ 0 → Err (fault_at Read n Closed) ≡ read_answer (guarded cs) n
+  read_closed cs n v h e = rw (read_guarded cs n, ← h, eq-eqb v.mark 0 e)
 
-  pub read_passed : (cs : List (Cell K)) (n : ℕ) (v : Node K) → Ok v ≡ read_answer cs n → eqb v.mark 0 ≡ false → Ok v ≡ read_answer (guarded cs) n
-  read_passed cs n v h e = rw (read_guarded cs n, ← h, e)
+  pub read_passed : (cs : List (Cell K)) (n : ℕ) (v : Node K) → Ok v ≡ read_answer cs n → v.mark ≢ 0 → Ok v ≡ read_answer (guarded cs) n
+  read_passed cs n v h used = rw (read_guarded cs n, ← h, ne_eqb v.mark 0 used)
 
   pub read_failed : (cs : List (Cell K)) (n : ℕ) (x : StoreFault) → Err x ≡ read_answer cs n → Err x ≡ read_answer (guarded cs) n
   read_failed cs n x h = rw (read_guarded cs n, ← h)
@@ -84,3 +84,6 @@ module _ {K : Type 0} where
   unfolding Written
   written_guarded cs n v ds (inl e) = by_mark (eqb v.mark 0) (guarded cs) n v (guarded ds) refl (ap guarded e ∙ replaced_guarded cs n (readable v))
   written_guarded cs n v ds (inr e) = inr (ap guarded e ∙ replaced_guarded cs n (shut v.mark))
+
+-- all that the guard's four functions need
+pub ruleset guard_answers = (count_guarded, mark_guarded, read_closed, read_passed, read_failed, write_guarded, written_guarded)

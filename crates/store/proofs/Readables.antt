@@ -73,7 +73,14 @@ module _ {K : Type 0} (vs : List (Node K)) (n : ℕ) where
   nodes_same x v h = rw (refused Write n (length vs) x (n - 1) h)
 
 -- the number of nodes is what count answers
+pub count_there : {K : Type 0} (vs : List (Node K)) → count_answer (all_readable vs) ≡ length vs
+count_there vs = count_is (all_readable vs) ∙ length-map vs readable
+
 pub range_counted : {K : Type 0} (vs : List (Node K)) → Iff (InRange (length vs)) (InRange (count_answer (all_readable vs)))
 range_counted vs =
-    let e = count_is (all_readable vs) ∙ length-map vs readable in
+    let e = count_there vs in
     record { to = subst InRange (sym e); from = subst InRange e }
+
+-- all that the four functions of the record store need
+pub ruleset record_answers =
+    (count_there, mark_there, mark_refused, read_there, read_refused, write_there, written_there, nodes_there, write_refused, unwritten, nodes_same)

@@ -1,7 +1,8 @@
 // Why a store refuses: which of its functions, at which number, and for which cause.
 ghost use Rattle.std.specs.Prelude.{◌≡◌, ◌-◌, Some, Ok};
-ghost use Rattle.store.specs.Faults.{inside_or, store_fault_shown};
+ghost use Rattle.store.specs.Faults.{function_word, cause_word, inside_or, store_fault_shown};
 
+use std::error::Error;
 use std::fmt;
 
 // The functions of a store that can be refused.
@@ -40,20 +41,40 @@ pub fn index_of(function: Function, n: usize, count: usize) -> Result<usize, Sto
     Ok(n - 1)
 }
 
+impl fmt::Display for Function {
+    ghost output = { λ function. Some (function_word function) };
+
+    fn fmt<W: fmt::Write>(&self, f: &mut fmt::Formatter<W>) -> fmt::Result {
+        f.write_str(match self {
+            Function::Mark => "mark",
+            Function::Read => "read",
+            Function::Write => "write",
+        })
+    }
+}
+
+impl fmt::Display for Cause {
+    ghost output = { λ cause. Some (cause_word cause) };
+
+    fn fmt<W: fmt::Write>(&self, f: &mut fmt::Formatter<W>) -> fmt::Result {
+        f.write_str(match self {
+            Cause::Outside => "outside",
+            Cause::Closed => "closed",
+        })
+    }
+}
+
 impl fmt::Display for StoreFault {
     ghost output = { λ e. Some (store_fault_shown e) };
 
     fn fmt<W: fmt::Write>(&self, f: &mut fmt::Formatter<W>) -> fmt::Result {
-        let function = match self.function {
-            Function::Mark => "mark",
-            Function::Read => "read",
-            Function::Write => "write",
-        };
-        let cause = match self.cause {
-            Cause::Outside => "outside",
-            Cause::Closed => "closed",
-        };
-        let node = self.node;
+        let StoreFault {
+            function,
+            node,
+            cause,
+        } = self;
         write!(f, "{function} {node} {cause}")
     }
 }
+
+impl Error for StoreFault {}

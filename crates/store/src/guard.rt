@@ -1,6 +1,6 @@
 // The guard: stands over any store and has its nodes. It closes those closed below and all with mark 0,
 // so that code that reads a free node is told.
-ghost use Rattle.std.specs.Prelude.{◌≡◌, ◌==◌};
+ghost use Rattle.std.specs.Prelude.{◌≡◌};
 ghost use Rattle.store.specs.Cells.{guarded};
 ghost use Rattle.store.specs.Fits.{guarded_fit};
 
@@ -21,13 +21,7 @@ impl<S> Guard<S> {
     }
 }
 
-// Whether a node that can be read below is closed for its mark.
-fn closes(mark: u8) -> bool
-    ensures { result ≡ (mark == 0) }
-{
-    mark == FREE
-}
-
+#[tactic(auto, using(crate::proofs::Guardings::guard_answers))]
 impl<S: Store> Store for Guard<S> {
     type Key = S::Key;
 
@@ -47,7 +41,7 @@ impl<S: Store> Store for Guard<S> {
 
     fn read(&self, n: usize) -> Result<Node<S::Key>, StoreFault> {
         let v = self.below.read(n)?;
-        if closes(v.mark) {
+        if v.mark == FREE {
             return Err(StoreFault {
                 function: Function::Read,
                 node: n,

@@ -35,6 +35,8 @@ pub trait Store {
         ensures { result ≡ read_answer (cells self.now) n };
 
     // Replaces node n by v; refused as outside as above.
+    // That it keeps the store fit is said by each function that writes, and is no invariant of a type: what they promise holds of stores that
+    // are not fit, too.
     fn write(&mut self, n: usize, v: &Node<Self::Key>) -> Result<(), StoreFault>
         ensures value { result ≡ write_answer (cells self.old) n }
         ensures after { Written (cells self.old) n v.now (cells self.new) }

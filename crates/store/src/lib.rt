@@ -12,5 +12,5 @@ pub use fault::{Cause, Function, StoreFault, index_of};
 pub use guard::Guard;
 pub use interface::Store;
 pub use meanings::{closing_all_is_unfit, guard_meaning, record_store_meaning};
-pub use node::{FREE, LIVE, Node, Region, SEAT, WAITING, linked, plain_node, region_of};
+pub use node::{FREE, LIVE, Node, Region, SEAT, WAITING, linked};
 pub use record::RecordStore;

@@ -1,4 +1,5 @@
 // The record store: node records in memory that the host lends. It closes no node.
+// A rule of the project: its methods hand the slice to functions, so that what is done to records is said of slices alone.
 ghost use Rattle.std.specs.Prelude.{◌≡◌, length};
 ghost use Rattle.store.specs.Cells.{mark_answer, read_answer, write_answer, Written, all_readable, nodes_after};
 ghost use Rattle.store.specs.Fits.{InRange, readable_fit};
@@ -21,6 +22,7 @@ impl<'a, K> RecordStore<'a, K> {
     }
 }
 
+#[tactic(auto, using(crate::proofs::Readables::record_answers))]
 fn mark_in<K: Copy>(nodes: &[Node<K>], n: usize) -> Result<u8, StoreFault>
     ensures { result ≡ mark_answer (all_readable nodes.now) n }
 {
@@ -28,6 +30,7 @@ fn mark_in<K: Copy>(nodes: &[Node<K>], n: usize) -> Result<u8, StoreFault>
     Ok(nodes[i].mark)
 }
 
+#[tactic(auto, using(crate::proofs::Readables::record_answers))]
 fn read_in<K: Copy>(nodes: &[Node<K>], n: usize) -> Result<Node<K>, StoreFault>
     ensures { result ≡ read_answer (all_readable nodes.now) n }
 {
@@ -35,20 +38,18 @@ fn read_in<K: Copy>(nodes: &[Node<K>], n: usize) -> Result<Node<K>, StoreFault>
     Ok(nodes[i])
 }
 
+#[tactic(auto, using(crate::proofs::Readables::record_answers))]
 fn write_in<K: Copy>(nodes: &mut [Node<K>], n: usize, v: &Node<K>) -> Result<(), StoreFault>
     ensures value { result ≡ write_answer (all_readable nodes.old) n }
     ensures after { Written (all_readable nodes.old) n v.now (all_readable nodes.new) }
     ensures nodes { nodes.new ≡ nodes_after nodes.old n v.now }
 {
-    match index_of(Function::Write, n, nodes.len()) {
-        Ok(i) => {
-            nodes[i] = *v;
-            Ok(())
-        }
-        Err(fault) => Err(fault),
-    }
+    let i = index_of(Function::Write, n, nodes.len())?;
+    nodes[i] = *v;
+    Ok(())
 }
 
+#[tactic(auto, using(crate::proofs::Readables::record_answers))]
 impl<'a, K: Key> Store for RecordStore<'a, K> {
     type Key = K;
 

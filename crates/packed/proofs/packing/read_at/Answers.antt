@@ -3,12 +3,12 @@ use Rattle.std.proofs.lemmas.Result.{err_from_is_err_and}
 use Rattle.packed.proofs.Rows.{read_room, read_none}
 use Rattle.packed.proofs.packing.read_at.Goals as goal
 
-pub returns-in_err-from : goal.returns-in_err-from
-returns-in_err-from g c =
+pub returns-in_err-room : goal.returns-in_err-room
+returns-in_err-room g c =
     let p = err_from_is_err_and c.from_residual.result c.from_residual.ensures.1 in
-    p.1 ∙ ap Err p.2 ∙ read_none g.K.Key c.args.bytes.now c.args.n _ c.in_err-from.ensures.value
+    p.1 ∙ ap Err p.2 ∙ read_none g.K.Key c.args.bytes.now c.args.n _ c.in_err-room.ensures.value
 
 pub returns : goal.returns
 returns g c =
-    read_room g.K.Key c.args.bytes.now c.args.n c.in_ok-from.from c.in_ok-from.to c.decode.result
-    c.in_ok-from.ensures.value c.decode.ensures.value
+    read_room g.K.Key c.args.bytes.now c.args.n c.in_ok-room.room c.decode.result
+    c.in_ok-room.ensures.value c.decode.ensures.value

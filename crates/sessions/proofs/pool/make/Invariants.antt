@@ -1,10 +1,11 @@
+use Rattle.std.proofs.Common.{◌-◌}
 use Rattle.sessions.specs.Writings.{Rewritten}
 use Rattle.sessions.specs.Making.{every_node}
 use Rattle.sessions.proofs.Sweeping.{upto}
 use Rattle.sessions.proofs.pool.make.Given as goal
 
--- the first i nodes are written, and the store is fit if it was
-abbrev pub invariant-loop-i : goal.invariant-loop-i
-invariant-loop-i g l =
-    Rewritten (upto l.i (every_node g.S.Key.Key.blank)) (g.S.Store.cells l.initial.store) (g.S.Store.cells l.store)
+-- the nodes before n are written, and the store is fit if it was
+abbrev pub invariant-loop-n : goal.invariant-loop-n
+invariant-loop-n g l =
+    Rewritten (upto (l.n - 1) (every_node g.S.Key.Key.blank)) (g.S.Store.cells l.initial.store) (g.S.Store.cells l.store)
     × (g.S.Store.fit l.initial.store → g.S.Store.fit l.store)
