@@ -17,7 +17,7 @@ use Rattle.commits.specs.Commits.{news, GoneInside, AllInside}
 
 pub bind_inv : {A B E : Type 0} (m : Result A E) (f : A → Result B E) (b : B) → Ok b ≡ bind m f → (a : A) × (Ok a ≡ m) × (Ok b ≡ f a)
 bind_inv (Ok a) f b e = (a, refl, e)
-bind_inv (Err x) f b e = let z : ◌≡◌ {A = ℕ} 0 1 = cc in let w : ⊥ = omega arith in elim w [ ]
+bind_inv (Err x) f b e = absurd (let z : ⊥ = cc in z)
 
 module _ {K : Type 0} where
   abbrev pub SeenInside : ℕ → Seen K → Type 0
@@ -40,7 +40,7 @@ module _ {K : Type 0} where
   fair_node : (cs : List (Cell K)) (n : ℕ) (s : Seen K) (r : Result (Node K) StoreFault) → r ≡ read_answer cs n → Ok s ≡ node_seen n r → Fair (length cs) (kept n) s
   unfolding tree
   fair_node cs n s (Ok v) h e = fair_as (length cs) (kept n) s _ e (record { inside = read_from cs n v h; same = refl })
-  fair_node cs n s (Err x) h e = let z : ◌≡◌ {A = ℕ} 0 1 = cc in let w : ⊥ = omega arith in elim w [ ]
+  fair_node cs n s (Err x) h e = absurd (let z : ⊥ = cc in z)
 
   fair_by : (cs : List (Cell K)) (n : ℕ) (b : Bool) (s : Seen K) → eqb n 0 ≡ b → Ok s ≡ cond b (Ok nothing) (node_seen n (read_answer cs n)) → Fair (length cs) (kept n) s
   unfolding tree
@@ -54,7 +54,7 @@ module _ {K : Type 0} where
 
   opened_news : (s : Seen K) (p : Parts K) → opened s ≡ Some p → news p.left + news p.right ≤ news (tree s)
   unfolding opened tree news
-  opened_news nothing p e = let z : ◌≡◌ {A = ℕ} 0 1 = cc in omega arith
+  opened_news nothing p e = absurd (let z : ⊥ = cc in z)
   opened_news (stored q) p e =
       let l : p.left ≡ kept q.node.left = cc in
       let r : p.right ≡ kept q.node.right = cc in

@@ -1,5 +1,8 @@
 -- Writes made one after another, and a tree put into the store.
-use Rattle.std.proofs.Common.{◌≡◌, ℕ, zero, suc, ◌+◌, ◌<◌, ◌≤◌, false, List, [], ◌∷◌, ◌++◌, map, length, take, Ok, Err, Result, sym, refl, ap, ◌∙◌, subst, arith, take_all}
+use Rattle.std.proofs.Common.{◌≡◌, ℕ, zero, suc, ◌+◌, ◌<◌, ◌≤◌, false, List, [], ◌∷◌, ◌++◌, map, length, take, Some, None, Option, Ok, Err, Result, sym, refl, ap, ◌∙◌, subst, arith}
+use Rattle.std.specs.List.{slice_get}
+use Rattle.std.proofs.lemmas.List.{take_more, map-append}
+use Rattle.std.proofs.lemmas.Option.{slice_get_within, get_or_from_slice_get}
 use Rattle.store.specs.declared.node.Node.{Node}
 use Rattle.store.specs.declared.fault.StoreFault.{StoreFault}
 use Rattle.store.specs.Faults.{outside}
@@ -16,12 +19,10 @@ use Rattle.drafts.specs.Grown.{Grown, kept, built}
 use Rattle.drafts.specs.Drafts.{grown, tree_of, Stands}
 use Rattle.search.specs.Firsts.{first, later}
 use Rattle.commits.specs.declared.writes.Joint.{Joint}
-use Rattle.commits.specs.declared.writes.Joint.TheVariants.{Root, Under}
-use Rattle.drafts.specs.declared.link.Lean.{Lean}
 use Rattle.commits.specs.Commits.{Writes, AllInside, Placing, new_node, news, placed, with_link, hung, root_after, JointInside, leaving, left_behind, committed, GoneInside}
 
 later_length : (ns : List ℕ) → 0 < length ns → length (later ns) + 1 ≡ length ns
-later_length [] h = let w : ⊥ = omega arith in elim w [ ]
+later_length [] h = absurd (omega arith)
 later_length (n ∷ ns) h = omega arith
 
 later_inside : (N : ℕ) (ns : List ℕ) → AllInside N ns → AllInside N (later ns)
@@ -29,12 +30,8 @@ later_inside N [] p = tt
 later_inside N (n ∷ ns) p = p.1
 
 pub first_inside : (N : ℕ) (ns : List ℕ) → 0 < length ns → AllInside N ns → outside (first ns) N ≡ false
-first_inside N [] h p = let w : ⊥ = omega arith in elim w [ ]
+first_inside N [] h p = absurd (omega arith)
 first_inside N (n ∷ ns) h p = p.0
-
-map_snoc : {A B : Type 0} (f : A → B) (xs : List A) (y : A) → map f (xs ++ (y ∷ [])) ≡ map f xs ++ (f y ∷ [])
-map_snoc f [] y = refl
-map_snoc f (x ∷ xs) y = ap (λ l. f x ∷ l) (map_snoc f xs y)
 
 pub next_inside : (N n : ℕ) (ns : List ℕ) → n ≡ first ns → 0 < length ns → AllInside N ns → outside n N ≡ false
 next_inside N n ns e h p = ap (λ m. outside m N) e ∙ first_inside N ns h p
@@ -44,7 +41,7 @@ module _ {K : Type 0} where
   pub no_refusal : (cs : List (Cell K)) (n : ℕ) (e : StoreFault) → outside n (length cs) ≡ false → Err e ≡ write_answer cs n → ⊥
   no_refusal cs n e h r =
       let w : ◌≡◌ {A = Result (Unit {0}) StoreFault} (Err e) (Ok tt) = r ∙ write_inside cs n h in
-      let y : ◌≡◌ {A = ℕ} 0 1 = cc in omega arith
+      cc
 
   pub writes_none : (cs : List (Cell K)) → Writes cs [] cs
   unfolding Writes
@@ -123,52 +120,56 @@ module _ {K : Type 0} where
   news_new d k i v e p = ap (λ l. news (tree_of d l)) e ∙ ap news p.tree
 
   -- the nodes that leave, one after another
-  pub writes_next : (cs mid ds : List (Cell K)) (sessions : ℕ) (ps qs : List (Numbered K)) (p : Numbered K) → qs ≡ ps ++ (p ∷ []) → Writes cs (map (left_behind sessions) ps) mid →
-      Written mid p.number (leaving sessions p.node) ds → Writes cs (map (left_behind sessions) qs) ds
-  writes_next cs mid ds sessions ps qs p e h w =
-      subst (λ l. Writes cs l ds) (sym (ap (map (left_behind sessions)) e ∙ map_snoc (left_behind sessions) ps p)) (writes_then cs mid ds _ _ h (writes_one mid ds _ _ w))
+  pub left_next : (cs mid ds : List (Cell K)) (sessions i : ℕ) (ps : List (Numbered K)) (p : Numbered K) → slice_get ps i ≡ Some p →
+      Writes cs (map (left_behind sessions) (take i ps)) mid → Written mid p.number (leaving sessions p.node) ds → Writes cs (map (left_behind sessions) (take (i + 1) ps)) ds
+  left_next cs mid ds sessions i ps p e h w =
+      let next : take (i + 1) ps ≡ take i ps ++ (p ∷ []) =
+      take_more ps i p (slice_get_within ps i p e) ∙ ap (λ q. take i ps ++ (q ∷ [])) (get_or_from_slice_get ps i p p e) in
+      rw (next, map-append (left_behind sessions) (take i ps) (p ∷ [])) (writes_then cs mid ds _ _ h (writes_one mid ds _ _ w))
 
-  inside_take : (N k : ℕ) (ps : List (Numbered K)) → GoneInside N ps → GoneInside N (take k ps)
-  inside_take N zero ps h = tt
-  inside_take N (suc k) [] h = tt
-  inside_take N (suc k) (p ∷ ps) h = (h.0, inside_take N k ps h.1)
+  pub inside_at : (N i : ℕ) (ps : List (Numbered K)) (p : Numbered K) → slice_get ps i ≡ Some p → GoneInside N ps → outside p.number N ≡ false
+  inside_at N i [] p e h = absurd (let z : ⊥ = cc in z)
+  inside_at N zero (q ∷ ps) p e h = let z : q ≡ p = cc in subst (λ r. outside r.number N ≡ false) z h.0
+  inside_at N (suc i) (q ∷ ps) p e h = inside_at N i ps p e h.1
 
-  inside_last : (N : ℕ) (ps : List (Numbered K)) (p : Numbered K) → GoneInside N (ps ++ (p ∷ [])) → outside p.number N ≡ false
-  inside_last N [] p h = h.0
-  inside_last N (q ∷ ps) p h = inside_last N ps p h.1
-
-  pub inside_at : (N k j : ℕ) (ps : List (Numbered K)) (p : Numbered K) → take k ps ≡ take j ps ++ (p ∷ []) → GoneInside N ps → outside p.number N ≡ false
-  inside_at N k j ps p e h = inside_last N (take j ps) p (subst (GoneInside N) e (inside_take N k ps h))
-
-  pub all_gone : (cs ds : List (Cell K)) (sessions k : ℕ) (ps : List (Numbered K)) → length ps ≤ k → Writes cs (map (left_behind sessions) (take k ps)) ds → Writes cs (map (left_behind sessions) ps) ds
-  all_gone cs ds sessions k ps h w = subst (λ l. Writes cs (map (left_behind sessions) l) ds) (take_all k ps h) w
-
-  pub all_written : (cs cs₁ cs₂ ds : List (Cell K)) (j : Joint K) (p : Placing K) (n sessions : ℕ) (gone : List (Numbered K)) → n ≡ p.top →
+  pub all_written : (cs cs₁ cs₂ ds : List (Cell K)) (j : Option (Joint K)) (p : Placing K) (n sessions : ℕ) (gone : List (Numbered K)) → n ≡ p.top →
       Writes cs p.writes cs₁ → Writes cs₁ (hung j n) cs₂ → Writes cs₂ (map (left_behind sessions) gone) ds → Writes cs (committed j p sessions gone) ds
   unfolding committed
   all_written cs cs₁ cs₂ ds j p n sessions gone e a b c =
       writes_then cs cs₁ ds _ _ a (writes_then cs₁ cs₂ ds _ _ (subst (λ m. Writes cs₁ (hung j m) cs₂) e b) c)
 
-  -- what is left after a tree was placed
-  pub inside_after : (cs ds : List (Cell K)) (t : Grown K) (ws : List (Numbered K)) (ns ms : List ℕ) → Writes cs ws ds → ms ≡ (placed t ns).rest → AllInside (length cs) ns → AllInside (length ds) ms
-  inside_after cs ds t ws ns ms w e p =
-      subst (AllInside (length ds)) (sym e) (subst (λ N. AllInside N (placed t ns).rest) (sym (writes_length cs ds ws w)) (rest_inside (length cs) t ns p))
+  -- what is left after a tree was placed: k numbers at least, all of them nodes of the store
+  pub record Leaves (ds : List (Cell K)) (ms : List ℕ) (k : ℕ) : Type 0 where
+    pub many : k ≤ length ms
+    pub inside : AllInside (length ds) ms
 
-  pub many_after : (t : Grown K) (ns ms : List ℕ) (k : ℕ) → ms ≡ (placed t ns).rest → news t + k ≤ length ns → k ≤ length ms
-  many_after t ns ms k e h = let a = rest_length t ns (omega arith) in omega (arith, ap length e)
+  pub leaves : (cs ds : List (Cell K)) (t : Grown K) (ns ms : List ℕ) (k : ℕ) → Writes cs (placed t ns).writes ds → ms ≡ (placed t ns).rest →
+      news t + k ≤ length ns → AllInside (length cs) ns → Leaves ds ms k
+  leaves cs ds t ns ms k w e h p =
+      let a = rest_length t ns (omega arith) in
+      record {
+        many = omega (arith, ap length e);
+        inside = rw (e, writes_length cs ds (placed t ns).writes w) (rest_inside (length cs) t ns p);
+      }
+
+  -- after the left side of a new node was placed
+  pub leaves_right : (cs ds : List (Cell K)) (d : Draft K) (k : Link) (i : ℕ) (v : Branch K) (ns ms : List ℕ) → k ≡ New i → Stands d i v →
+      Writes cs (placed (tree_of d v.left) ns).writes ds → ms ≡ (placed (tree_of d v.left) ns).rest → news (tree_of d k) ≤ length ns → AllInside (length cs) ns →
+      Leaves ds ms (news (tree_of d v.right) + 1)
+  leaves_right cs ds d k i v ns ms e s w r h p = leaves cs ds (tree_of d v.left) ns ms _ w r (omega (arith, news_new d k i v e s)) p
 
   -- the one link
-  pub hung_root : (cs : List (Cell K)) (j : Joint K) (n root : ℕ) → j ≡ Root → Writes cs (hung j n) cs × (n ≡ root_after j n root)
+  pub hung_root : (cs : List (Cell K)) (j : Option (Joint K)) (n root : ℕ) → j ≡ None → Writes cs (hung j n) cs × (n ≡ root_after j n root)
   hung_root cs j n root e = (rw e (writes_none cs), rw e)
 
-  pub hung_under : (cs ds : List (Cell K)) (j : Joint K) (p : Numbered K) (s : Lean) (v : Node K) (n root : ℕ) → j ≡ Under p s → v ≡ with_link s n p.node → Written cs p.number v ds →
-      Writes cs (hung j n) ds × (root ≡ root_after j n root)
-  hung_under cs ds j p s v n root e f w = (rw e (writes_one cs ds p.number _ (subst (λ u. Written cs p.number u ds) f w)), rw e)
+  pub hung_under : (cs ds : List (Cell K)) (o : Option (Joint K)) (j : Joint K) (v : Node K) (n root : ℕ) → o ≡ Some j → v ≡ with_link j.side n j.above.node →
+      Written cs j.above.number v ds → Writes cs (hung o n) ds × (root ≡ root_after o n root)
+  hung_under cs ds o j v n root e f w = (rw e (writes_one cs ds j.above.number _ (subst (λ u. Written cs j.above.number u ds) f w)), rw e)
 
-  pub under_inside : (N : ℕ) (j : Joint K) (p : Numbered K) (s : Lean) → j ≡ Under p s → JointInside N j → outside p.number N ≡ false
-  under_inside N j p s e h = subst (JointInside N) e h
+  pub under_inside : (N : ℕ) (o : Option (Joint K)) (j : Joint K) → o ≡ Some j → JointInside N o → outside j.above.number N ≡ false
+  under_inside N o j e h = subst (JointInside N) e h
 
-  pub joint_after : (cs ds : List (Cell K)) (ws : List (Numbered K)) (j : Joint K) → Writes cs ws ds → JointInside (length cs) j → JointInside (length ds) j
+  pub joint_after : (cs ds : List (Cell K)) (ws : List (Numbered K)) (j : Option (Joint K)) → Writes cs ws ds → JointInside (length cs) j → JointInside (length ds) j
   joint_after cs ds ws j w h = subst (λ N. JointInside N j) (sym (writes_length cs ds ws w)) h
 
   pub gone_after : (cs ds : List (Cell K)) (ws ps : List (Numbered K)) → Writes cs ws ds → GoneInside (length cs) ps → GoneInside (length ds) ps

@@ -1,11 +1,10 @@
 -- Every write of an edit falls on a node of the store just if there is a number for each new node: one without gets the number 0.
-use Rattle.std.proofs.Common.{◌≡◌, ℕ, ◌+◌, ◌≤◌, false, List, [], ◌∷◌, ◌++◌, map, length, arith}
+use Rattle.std.proofs.Common.{◌≡◌, ℕ, ◌+◌, ◌≤◌, false, List, [], ◌∷◌, ◌++◌, map, length, Some, None, Option, arith}
 use Rattle.store.specs.Faults.{outside}
 use Rattle.drafts.specs.declared.link.Numbered.{Numbered}
 use Rattle.drafts.specs.Grown.{Grown, kept, built}
 use Rattle.search.specs.Firsts.{first, later}
 use Rattle.commits.specs.declared.writes.Joint.{Joint}
-use Rattle.commits.specs.declared.writes.Joint.TheVariants.{Root, Under}
 use Rattle.commits.specs.Commits.{news, placed, hung, left_behind, committed, AllInside, GoneInside, JointInside}
 use Rattle.commits.specs.Theorems.{TakesEnough}
 use Rattle.commits.proofs.Committing.{first_inside, rest_length, rest_inside}
@@ -31,9 +30,9 @@ module _ {K : Type 0} (N : ℕ) where
   left_inside sessions [] p = tt
   left_inside sessions (g ∷ gone) p = (p.0, left_inside sessions gone p.1)
 
-  hung_inside : (j : Joint K) (n : ℕ) → JointInside N j → GoneInside N (hung j n)
-  hung_inside Root n h = tt
-  hung_inside (Under p s) n h = (h, tt)
+  hung_inside : (j : Option (Joint K)) (n : ℕ) → JointInside N j → GoneInside N (hung j n)
+  hung_inside None n h = tt
+  hung_inside (Some j) n h = (h, tt)
 
   placed_inside : (t : Grown K) (ns : List ℕ) → news t ≤ length ns → AllInside N ns → GoneInside N (placed t ns).writes
   unfolding placed news
@@ -48,7 +47,7 @@ module _ {K : Type 0} (N : ℕ) where
       both_inside left.writes _ (placed_inside l ns (omega arith) a)
       (both_inside right.writes _ (placed_inside r left.rest (omega arith) b) (top, tt))
 
-  pub committed_inside : (j : Joint K) (t : Grown K) (ns : List ℕ) (sessions : ℕ) (gone : List (Numbered K)) → news t ≤ length ns → AllInside N ns → JointInside N j → GoneInside N gone →
+  pub committed_inside : (j : Option (Joint K)) (t : Grown K) (ns : List ℕ) (sessions : ℕ) (gone : List (Numbered K)) → news t ≤ length ns → AllInside N ns → JointInside N j → GoneInside N gone →
       GoneInside N (committed j (placed t ns) sessions gone)
   unfolding committed
   committed_inside j t ns sessions gone h a i g =

@@ -1,7 +1,8 @@
 -- What an edit writes: a tree that was built, one link, and the nodes that leave.
-use Rattle.std.specs.Prelude.{◌≡◌, ℕ, ◌+◌, false, cond, List, [], ◌∷◌, ◌++◌, map, ◌==◌}
+use Rattle.std.specs.Prelude.{◌≡◌, ℕ, ◌+◌, false, List, [], ◌∷◌, ◌++◌, map, Some, None, Option}
 use Rattle.store.specs.declared.node.Node.{Node}
 use Rattle.store.specs.Faults.{outside}
+use Rattle.store.specs.Nodes.{waiting}
 use Rattle.store.specs.Cells.{Cell, Written}
 use Rattle.store.specs.declared.node.Region.{Region}
 use Rattle.drafts.specs.declared.link.Numbered.{Numbered}
@@ -10,7 +11,6 @@ use Rattle.drafts.specs.declared.link.Lean.TheVariants.{Right, Left}
 use Rattle.drafts.specs.Grown.{Grown, kept, built}
 use Rattle.search.specs.Firsts.{first, later}
 use Rattle.commits.specs.declared.writes.Joint.{Joint}
-use Rattle.commits.specs.declared.writes.Joint.TheVariants.{Root, Under}
 
 -- each of some numbers is that of a node of the store
 abbrev pub AllInside : ℕ → List ℕ → Type 0
@@ -54,33 +54,24 @@ module _ {K : Type 0} where
   with_link Left n v = record { mark = v.mark; left = n; right = v.right; size = v.size; rows = v.rows; waits = v.waits; low = v.low; high = v.high }
   with_link Right n v = record { mark = v.mark; left = v.left; right = n; size = v.size; rows = v.rows; waits = v.waits; low = v.low; high = v.high }
 
-  -- the one link that changes: the root link, or one of a node
-  abbrev pub hung : Joint K → ℕ → List (Numbered K)
-  hung Root n = []
-  hung (Under p s) n = record { number = p.number; node = with_link s n p.node } ∷ []
+  -- the one link that changes: that of a node, or the root link
+  abbrev pub hung : Option (Joint K) → ℕ → List (Numbered K)
+  hung None n = []
+  hung (Some j) n = record { number = j.above.number; node = with_link j.side n j.above.node } ∷ []
 
-  abbrev pub root_after : Joint K → ℕ → ℕ → ℕ
-  root_after Root n root = n
-  root_after (Under p s) n root = root
+  abbrev pub root_after : Option (Joint K) → ℕ → ℕ → ℕ
+  root_after None n root = n
+  root_after (Some j) n root = root
 
   -- a node that leaves waits for the open sessions; with none it is free
   abbrev pub leaving : ℕ → Node K → Node K
-  leaving sessions v = record {
-    mark = cond (sessions == 0) 0 2;
-    left = v.left;
-    right = v.right;
-    size = v.size;
-    rows = v.rows;
-    waits = sessions;
-    low = v.low;
-    high = v.high;
-  }
+  leaving sessions v = waiting sessions v
 
   abbrev pub left_behind : ℕ → Numbered K → Numbered K
   left_behind sessions p = record { number = p.number; node = leaving sessions p.node }
 
   -- all writes of an edit, in their order: the new nodes, the one link, the nodes that leave
-  unfoldable pub committed : Joint K → Placing K → ℕ → List (Numbered K) → List (Numbered K)
+  unfoldable pub committed : Option (Joint K) → Placing K → ℕ → List (Numbered K) → List (Numbered K)
   committed j p sessions gone = p.writes ++ (hung j p.top ++ map (left_behind sessions) gone)
 
   -- the nodes are nodes of the store
@@ -88,6 +79,6 @@ module _ {K : Type 0} where
   GoneInside N [] = Unit {0}
   GoneInside N (p ∷ ps) = (outside p.number N ≡ false) × GoneInside N ps
 
-  abbrev pub JointInside : ℕ → Joint K → Type 0
-  JointInside N Root = Unit {0}
-  JointInside N (Under p s) = outside p.number N ≡ false
+  abbrev pub JointInside : ℕ → Option (Joint K) → Type 0
+  JointInside N None = Unit {0}
+  JointInside N (Some j) = outside j.above.number N ≡ false

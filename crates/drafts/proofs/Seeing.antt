@@ -1,22 +1,19 @@
 -- Sides of a node: what seeing one, taking one apart and joining two come to.
-use Rattle.std.proofs.Common.{◌≡◌, ℕ, ◌+◌, ◌≤◌, Bool, false, cond, eqb, List, [], ◌∷◌, ◌++◌, Some, None, Ok, Err, Result, sym, refl, ap, ◌∙◌, subst, arith}
-use Rattle.store.specs.Nodes.{region_of}
-use Rattle.std.proofs.lemmas.Bool.{eq-eqb, ne_eqb}
+use Rattle.std.proofs.Common.{◌≡◌, ℕ, ◌+◌, ◌≤◌, Bool, true, false, cond, eqb, List, [], ◌∷◌, ◌++◌, Some, None, Ok, Err, Option, Result, sym, refl, ap, ◌∙◌, subst, length-append, arith}
+use Rattle.store.specs.Nodes.{region_of, link_number}
 use Rattle.store.specs.declared.node.Node.{Node}
 use Rattle.store.specs.declared.fault.StoreFault.{StoreFault}
 use Rattle.store.specs.Cells.{Cell, read_answer}
 use Rattle.drafts.specs.declared.link.Link.{Link}
 use Rattle.drafts.specs.declared.link.Link.TheVariants.{Old, New}
-use Rattle.drafts.specs.declared.link.Lean.{Lean}
-use Rattle.drafts.specs.declared.link.Lean.TheVariants.{Right, Left}
 use Rattle.store.specs.declared.node.Region.{Region}
 use Rattle.drafts.specs.declared.link.Branch.{Branch}
 use Rattle.drafts.specs.declared.link.Numbered.{Numbered}
 use Rattle.drafts.specs.declared.link.Side.{Side}
 use Rattle.drafts.specs.declared.link.Side.TheVariants.{Empty, Stored, Drafted}
 use Rattle.drafts.specs.declared.draft.Draft.{Draft}
-use Rattle.drafts.specs.Grown.{Grown, built, Seen, fresh, tree, weight, opened, without, seen, node_seen, joined, joined_by, size_over}
-use Rattle.drafts.specs.Drafts.{grown, fine, tree_of, Fine, gone_of, Grew, Stands, Good, seen_of, link_of, side_weight, seen_told, good_told, Joins, Takes}
+use Rattle.drafts.specs.Grown.{Grown, built, Seen, nothing, fresh, tree, weight, opened, without, seen, both_seen, node_seen, joined, size_over}
+use Rattle.drafts.specs.Drafts.{grown, fine, tree_of, Fine, gone_of, Grew, Stands, Good, seen_of, link_of, side_weight, seen_told, good_told, both_told, both_good, Joins, Takes}
 
 by_false : {T : Type 0} (b : Bool) (x y : T) → b ≡ false → cond b x y ≡ y
 by_false b x y e = rw e
@@ -82,20 +79,31 @@ module _ {K : Type 0} where
   good_fine d (Drafted i b) p = p.link
 
   -- one look at a link
-  pub see_none : (d : Draft K) (cs : List (Cell K)) (l : Link) (n : ℕ) → l ≡ Old n → n ≡ 0 → Ok (seen_of d Empty) ≡ seen cs (tree_of d l)
-  unfolding seen seen_of grown
-  see_none d cs l n e z = rw (e, eq-eqb n 0 z)
+  abbrev by_link : List (Cell K) → Option ℕ → Result (Seen K) StoreFault
+  by_link cs None = Ok nothing
+  by_link cs (Some n) = node_seen n (read_answer cs n)
 
-  pub see_old : (d : Draft K) (cs : List (Cell K)) (l : Link) (n : ℕ) (v : Node K) → l ≡ Old n → (n ≡ 0 → ⊥) → Ok v ≡ read_answer cs n →
-      Ok (seen_of d (Stored (record { number = n; node = v }))) ≡ seen cs (tree_of d l)
-  unfolding seen seen_of grown
-  see_old d cs l n v e z h = rw e (ap (node_seen n) h ∙ sym (by_false (eqb n 0) _ _ (ne_eqb n 0 z)))
-
-  pub see_refused : (d : Draft K) (cs : List (Cell K)) (l : Link) (n : ℕ) (e y : StoreFault) (r : Result (Side K) StoreFault) → l ≡ Old n → (n ≡ 0 → ⊥) →
-      Err e ≡ read_answer cs n → r ≡ Err y → y ≡ e → (seen_told d r ≡ seen cs (tree_of d l)) × good_told d r
+  seen_at : (d : Draft K) (cs : List (Cell K)) (l : Link) (n : ℕ) → l ≡ Old n → seen cs (tree_of d l) ≡ by_link cs (link_number n)
   unfolding seen grown
-  see_refused d cs l n e y r a z h p q =
-      (rw (p, q, a) (ap (node_seen n) h ∙ sym (by_false (eqb n 0) _ _ (ne_eqb n 0 z))), rw p tt)
+  seen_at d cs l n e = rw e (by_test (eqb n 0))
+    where
+      by_test : (b : Bool) → cond b (Ok nothing) (node_seen n (read_answer cs n)) ≡ by_link cs (cond b None (Some n))
+      by_test true = refl
+      by_test false = refl
+
+  pub see_none : (d : Draft K) (cs : List (Cell K)) (l : Link) (n : ℕ) → l ≡ Old n → None ≡ link_number n → Ok (seen_of d Empty) ≡ seen cs (tree_of d l)
+  unfolding seen_of
+  see_none d cs l n e z = ap (by_link cs) z ∙ sym (seen_at d cs l n e)
+
+  pub see_old : (d : Draft K) (cs : List (Cell K)) (l : Link) (n m : ℕ) (v : Node K) → l ≡ Old n → Some m ≡ link_number n → Ok v ≡ read_answer cs m →
+      Ok (seen_of d (Stored (record { number = m; node = v }))) ≡ seen cs (tree_of d l)
+  unfolding seen_of
+  see_old d cs l n m v e z h = ap (node_seen m) h ∙ ap (by_link cs) z ∙ sym (seen_at d cs l n e)
+
+  pub see_refused : (d : Draft K) (cs : List (Cell K)) (l : Link) (n m : ℕ) (e y : StoreFault) (r : Result (Side K) StoreFault) → l ≡ Old n → Some m ≡ link_number n →
+      Err e ≡ read_answer cs m → r ≡ Err y → y ≡ e → (seen_told d r ≡ seen cs (tree_of d l)) × good_told d r
+  see_refused d cs l n m e y r a z h p q =
+      (rw (p, q) (ap (node_seen m) h ∙ ap (by_link cs) z ∙ sym (seen_at d cs l n a)), rw p tt)
 
   pub see_new : (d : Draft K) (cs : List (Cell K)) (l : Link) (i : ℕ) (b : Branch K) → l ≡ New i → Stands d i b →
       (Ok (seen_of d (Drafted i b)) ≡ seen cs (tree_of d l)) × Good d (Drafted i b)
@@ -109,6 +117,27 @@ module _ {K : Type 0} where
   pub good_stored : (d : Draft K) (p : Numbered K) → Good d (Stored p)
   unfolding Good
   good_stored d p = tt
+
+  -- two looks, and the exits of each
+  pub both_done : (cs : List (Cell K)) (l r : Grown K) (a b : Seen K) → Ok a ≡ seen cs l → Ok b ≡ seen cs r → Ok (a, b) ≡ both_seen cs l r
+  both_done cs l r a b e f = rw (← e, ← f) refl
+
+  pub both_first : (d : Draft K) (cs : List (Cell K)) (l r : Grown K) (e y : StoreFault) (t : Result (Side K × Side K) StoreFault) → Err e ≡ seen cs l → t ≡ Err y → y ≡ e →
+      (both_told d t ≡ both_seen cs l r) × both_good d t
+  both_first d cs l r e y t h p q = (rw (p, q, ← h) refl, rw p tt)
+
+  pub both_second : (d : Draft K) (cs : List (Cell K)) (l r : Grown K) (a : Seen K) (e y : StoreFault) (t : Result (Side K × Side K) StoreFault) → Ok a ≡ seen cs l → Err e ≡ seen cs r →
+      t ≡ Err y → y ≡ e → (both_told d t ≡ both_seen cs l r) × both_good d t
+  both_second d cs l r a e y t h i p q = (rw (p, q, ← h, ← i) refl, rw p tt)
+
+  -- one more node that leaves
+  pub grew_left : (d d' : Draft K) (p : Numbered K) → gone_of d' ≡ gone_of d ++ (p ∷ []) → d'.made ≡ d.made → Grew 0 1 d d'
+  grew_left d d' p g h = record {
+    few = rw h (omega arith);
+    few_out = rw (g, length-append d.gone (p ∷ [])) (omega arith);
+    stays = λ l q. rw h q;
+    same = λ l q. rw h;
+  }
 
   -- a top taken apart
   pub takes_none : (d : Draft K) (s : Side K) → s ≡ Empty → Takes d d None (seen_of d s)
@@ -124,11 +153,11 @@ module _ {K : Type 0} where
   branch_of v = record { size = v.size; region = region_of v; left = Old v.left; right = Old v.right }
 
   pub takes_stored : (d d' : Draft K) (s : Side K) (p : Numbered K) → s ≡ Stored p →
-      gone_of d' ≡ gone_of d ++ (p ∷ []) → d'.out ≡ d.out + 1 → d'.made ≡ d.made → d'.count ≡ d.count →
+      gone_of d' ≡ gone_of d ++ (p ∷ []) → d'.made ≡ d.made →
       Takes d d' (Some (branch_of p.node)) (seen_of d s)
   unfolding opened without seen_of grown
-  takes_stored d d' s p e g h i j = record {
-    grew = record { few = omega arith; few_out = omega arith; stays = λ k q. rw (i, j) q; same = λ k q. rw (i, j) };
+  takes_stored d d' s p e g h = record {
+    grew = grew_left d d' p g h;
     fine_parts = (fine_old d' p.node.left, fine_old d' p.node.right);
     is = rw e;
     gone = rw e g;
@@ -158,11 +187,3 @@ module _ {K : Type 0} where
     where
       fresh_of : {a a' : ℕ} {x x' : Region K} {l l' r r' : Grown K} → a ≡ a' → x ≡ x' → l ≡ l' → r ≡ r' → fresh a x l r ≡ fresh a' x' l' r'
       fresh_of e f g h = cc
-
-  pub joins_right : {d d' : Draft K} {t : Side K} (s : Lean) (x : Region K) (a b : Seen K) → s ≡ Right → Joins 1 d d' t (joined x a b) → Joins 1 d d' t (joined_by s x a b)
-  unfolding joined_by
-  joins_right s x a b e q = rw e q
-
-  pub joins_left : {d d' : Draft K} {t : Side K} (s : Lean) (x : Region K) (a b : Seen K) → s ≡ Left → Joins 1 d d' t (joined x b a) → Joins 1 d d' t (joined_by s x a b)
-  unfolding joined_by
-  joins_left s x a b e q = rw e q

@@ -1,5 +1,5 @@
 -- One step after another: how what the draft came to follows what the definitions say.
-use Rattle.std.proofs.Common.{◌≡◌, ℕ, ◌+◌, ◌*◌, ◌<◌, ◌≤◌, Bool, true, false, ltb, List, Some, None, Ok, Err, Option, Result, sym, ap, ◌∙◌, arith}
+use Rattle.std.proofs.Common.{◌≡◌, ℕ, ◌+◌, ◌*◌, ◌<◌, ◌≤◌, Bool, true, false, ltb, List, Some, None, Ok, Err, Option, Result, sym, refl, ap, ◌∙◌, arith}
 use Rattle.std.proofs.lemmas.Bool.{lt-ltb, le-ltb}
 use Rattle.store.specs.declared.fault.StoreFault.{StoreFault}
 use Rattle.store.specs.Cells.{Cell}
@@ -8,11 +8,10 @@ use Rattle.drafts.specs.declared.link.Lean.{Lean}
 use Rattle.drafts.specs.declared.link.Lean.TheVariants.{Right, Left}
 use Rattle.store.specs.declared.node.Region.{Region}
 use Rattle.drafts.specs.declared.link.Branch.{Branch}
-use Rattle.drafts.specs.declared.link.Numbered.{Numbered}
 use Rattle.drafts.specs.declared.link.Side.{Side}
 use Rattle.drafts.specs.declared.draft.Draft.{Draft}
-use Rattle.drafts.specs.Grown.{Seen, Built, bind, near, far, seen, without, joined_by, single, lifted, raised, double, double_by, turned, turned_by, turned_of, turned_over, heavy_side, rotated, balanced, balanced_by}
-use Rattle.drafts.specs.Drafts.{tree_of, Fine, gone_of, Good, seen_of, side_weight, parts_of, near_link, far_link, Makes, Joins, Takes}
+use Rattle.drafts.specs.Grown.{Grown, Seen, Parts, Built, bind, near, far, seen, both_seen, without, joined_by, single, lifted, raised, double, double_by, turned, turned_by, turned_of, turned_over, heavy_side, balanced, balanced_by}
+use Rattle.drafts.specs.Drafts.{tree_of, Fine, gone_of, Good, seen_of, side_weight, parts_of, other_side, link_on, Makes, Joins, Takes}
 use Rattle.drafts.proofs.Seeing.{grew_none, grew_wide, grew_on, seen_same, weight_seen}
 
 pub bind_at : {A B E : Type 0} (m : Result A E) (a : A) (k : A → Result B E) → Ok a ≡ m → k a ≡ bind m k
@@ -24,24 +23,32 @@ bind_stop m e k h = rw (← h)
 both : {A B C : Type 0} (f : A → B → C) {a a' : A} {b b' : B} → a ≡ a' → b ≡ b' → f a b ≡ f a' b'
 both f {a} {a'} {b} {b'} p q = ap (λ x. f x b) p ∙ ap (λ y. f a' y) q
 
+-- one step for two that may be refused
+pub both_bound : {A B C E : Type 0} (x : Result A E) (y : Result B E) (f : A → B → Result C E) →
+    bind {A = A × B} (bind x (λ a. bind y (λ b. Ok (a, b)))) (λ p. f p.0 p.1) ≡ bind x (λ a. bind y (λ b. f a b))
+both_bound (Err e) y f = refl
+both_bound (Ok a) (Err e) f = refl
+both_bound (Ok a) (Ok b) f = refl
+
 module _ {K : Type 0} where
-  pub near_fine : (d : Draft K) (s : Lean) (b : Branch K) (l : Link) → l ≡ near_link s b → Fine d b.left → Fine d b.right → Fine d l
-  near_fine d Right b l e p q = rw e p
-  near_fine d Left b l e p q = rw e q
+  pub link_fine : (d : Draft K) (s : Lean) (b : Branch K) (l : Link) → l ≡ link_on s b → Fine d b.left → Fine d b.right → Fine d l
+  link_fine d Right b l e p q = rw e q
+  link_fine d Left b l e p q = rw e p
 
-  pub far_fine : (d : Draft K) (s : Lean) (b : Branch K) (l : Link) → l ≡ far_link s b → Fine d b.left → Fine d b.right → Fine d l
-  far_fine d Right b l e p q = rw e q
-  far_fine d Left b l e p q = rw e p
-
-  pub near_tree : (d : Draft K) (s : Lean) (b : Branch K) (l : Link) → l ≡ near_link s b → tree_of d l ≡ near s (parts_of d b)
-  unfolding near
-  near_tree d Right b l e = rw e
-  near_tree d Left b l e = rw e
-
-  pub far_tree : (d : Draft K) (s : Lean) (b : Branch K) (l : Link) → l ≡ far_link s b → tree_of d l ≡ far s (parts_of d b)
+  -- the trees on the two sides of a top
+  far_tree : (d : Draft K) (s : Lean) (b : Branch K) (l : Link) → l ≡ link_on s b → tree_of d l ≡ far s (parts_of d b)
   unfolding far
   far_tree d Right b l e = rw e
   far_tree d Left b l e = rw e
+
+  near_tree : (d : Draft K) (s o : Lean) (b : Branch K) (l : Link) → o ≡ other_side s → l ≡ link_on o b → tree_of d l ≡ near s (parts_of d b)
+  unfolding near
+  near_tree d Right o b l e f = rw (f, e)
+  near_tree d Left o b l e f = rw (f, e)
+
+  pub sides_seen : (cs : List (Cell K)) (d : Draft K) (s o : Lean) (b : Branch K) (l l' : Link) → o ≡ other_side s → l ≡ link_on o b → l' ≡ link_on s b →
+      both_seen cs (tree_of d l) (tree_of d l') ≡ both_seen cs (near s (parts_of d b)) (far s (parts_of d b))
+  sides_seen cs d s o b l l' e f g = both (both_seen cs) (near_tree d s o b l e f) (far_tree d s b l' g)
 
   -- new nodes, whose making cannot be refused
   pub joins_as : {m : ℕ} {d d' : Draft K} {s : Side K} {t t' : Seen K} → Joins m d d' s t → t ≡ t' → Joins m d d' s t'
@@ -85,27 +92,25 @@ module _ {K : Type 0} where
       r ≡ Err y → y ≡ e → Err e ≡ w → Makes 0 0 d d r (bind w k)
   makes_unread d r e y w k p q h = record { grew = grew_none d; good = rw p tt; is = rw (p, q) (bind_stop w e k h) }
 
-  pub raise_stop_inner : (cs : List (Cell K)) (s : Lean) (x top : Region K) (d : Draft K) (light outer : Seen K) (l : Link) (mid : Branch K) (e y : StoreFault) (r : Result (Side K) StoreFault) →
-      l ≡ near_link s mid → Err e ≡ seen cs (tree_of d l) → r ≡ Err y → y ≡ e → Makes 3 0 d d r (raised cs (gone_of d) s x light top (parts_of d mid) outer)
-  unfolding raised
-  raise_stop_inner cs s x top d light outer l mid e y r a h p q =
-      makes_wide 3 0 (omega arith) (omega arith) (makes_unread d r e y _ _ p q (h ∙ ap (seen cs) (near_tree d s mid l a)))
+  -- two sides that were seen, and the exit where one was not
+  pub makes_seen : {m j : ℕ} {d d' : Draft K} {r : Result (Side K) StoreFault} (cs : List (Cell K)) (l l' : Grown K) (a b : Seen K) (k : Seen K → Seen K → Result (Built K) StoreFault) →
+      Ok (a, b) ≡ both_seen cs l l' → Makes m j d d' r (k a b) → Makes m j d d' r (bind (seen cs l) (λ a. bind (seen cs l') (λ b. k a b)))
+  makes_seen cs l l' a b k e q = makes_as (makes_read (both_seen cs l l') (a, b) (λ p. k p.0 p.1) e q) (both_bound (seen cs l) (seen cs l') k)
 
-  pub raise_stop_other : (cs : List (Cell K)) (s : Lean) (x top : Region K) (d : Draft K) (light outer inner : Seen K) (l l' : Link) (mid : Branch K) (e y : StoreFault) (r : Result (Side K) StoreFault) →
-      l ≡ near_link s mid → l' ≡ far_link s mid → Ok inner ≡ seen cs (tree_of d l) → Err e ≡ seen cs (tree_of d l') → r ≡ Err y → y ≡ e →
-      Makes 3 0 d d r (raised cs (gone_of d) s x light top (parts_of d mid) outer)
-  unfolding raised
-  raise_stop_other cs s x top d light outer inner l l' mid e y r a b h i p q =
-      makes_wide 3 0 (omega arith) (omega arith)
-      (makes_read _ inner _ (h ∙ ap (seen cs) (near_tree d s mid l a)) (makes_unread d r e y _ _ p q (i ∙ ap (seen cs) (far_tree d s mid l' b))))
+  pub makes_unseen : (d : Draft K) (r : Result (Side K) StoreFault) (e y : StoreFault) (cs : List (Cell K)) (l l' : Grown K) (k : Seen K → Seen K → Result (Built K) StoreFault) →
+      r ≡ Err y → y ≡ e → Err e ≡ both_seen cs l l' → Makes 0 0 d d r (bind (seen cs l) (λ a. bind (seen cs l') (λ b. k a b)))
+  makes_unseen d r e y cs l l' k p q h = makes_as (makes_unread d r e y (both_seen cs l l') (λ p. k p.0 p.1) p q h) (both_bound (seen cs l) (seen cs l') k)
 
-  pub raise_done : (cs : List (Cell K)) (s : Lean) (x top : Region K) (d d' : Draft K) (light outer inner other : Seen K) (l l' : Link) (mid : Branch K) (t : Side K) →
-      l ≡ near_link s mid → l' ≡ far_link s mid → Ok inner ≡ seen cs (tree_of d l) → Ok other ≡ seen cs (tree_of d l') →
-      Joins 3 d d' t (lifted s x light top mid.region inner other outer) →
-      Makes 3 0 d d' (Ok t) (raised cs (gone_of d) s x light top (parts_of d mid) outer)
+  pub raise_stop : (cs : List (Cell K)) (s : Lean) (x top : Region K) (d : Draft K) (light outer : Seen K) (mid : Parts K) (e y : StoreFault) (r : Result (Side K) StoreFault) →
+      Err e ≡ both_seen cs (near s mid) (far s mid) → r ≡ Err y → y ≡ e → Makes 3 0 d d r (raised cs (gone_of d) s x light top mid outer)
   unfolding raised
-  raise_done cs s x top d d' light outer inner other l l' mid t a b h i q =
-      makes_read _ inner _ (h ∙ ap (seen cs) (near_tree d s mid l a)) (makes_read _ other _ (i ∙ ap (seen cs) (far_tree d s mid l' b)) (makes_joined q))
+  raise_stop cs s x top d light outer mid e y r h p q = makes_wide 3 0 (omega arith) (omega arith) (makes_unseen d r e y cs (near s mid) (far s mid) _ p q h)
+
+  pub raise_done : (cs : List (Cell K)) (s : Lean) (x top : Region K) (d d' : Draft K) (light outer inner other : Seen K) (mid : Parts K) (t : Side K) →
+      Ok (inner, other) ≡ both_seen cs (near s mid) (far s mid) → Joins 3 d d' t (lifted s x light top mid.region inner other outer) →
+      Makes 3 0 d d' (Ok t) (raised cs (gone_of d) s x light top mid outer)
+  unfolding raised
+  raise_done cs s x top d d' light outer inner other mid t h q = makes_seen cs (near s mid) (far s mid) inner other _ h (makes_joined q)
 
   -- after a top was taken apart
   pub twice_none : (cs : List (Cell K)) (s : Lean) (x top : Region K) (d d₁ d₂ : Draft K) (light inner outer t : Side K) → Good d light → Good d inner → Good d outer →
@@ -160,59 +165,33 @@ module _ {K : Type 0} where
         ∙ ap (turned_of cs _ s x (seen_of d light) (seen_of d heavy)) p.is;
   }
 
-  pub over_stop_inner : (cs : List (Cell K)) (s : Lean) (x : Region K) (d : Draft K) (light : Seen K) (l : Link) (top : Branch K) (e y : StoreFault) (r : Result (Side K) StoreFault) →
-      l ≡ near_link s top → Err e ≡ seen cs (tree_of d l) → r ≡ Err y → y ≡ e → Makes 3 1 d d r (turned_over cs (gone_of d) s x light (parts_of d top))
+  pub over_stop : (cs : List (Cell K)) (s : Lean) (x : Region K) (d : Draft K) (light : Seen K) (top : Parts K) (e y : StoreFault) (r : Result (Side K) StoreFault) →
+      Err e ≡ both_seen cs (near s top) (far s top) → r ≡ Err y → y ≡ e → Makes 3 1 d d r (turned_over cs (gone_of d) s x light top)
   unfolding turned_over
-  over_stop_inner cs s x d light l top e y r a h p q =
-      makes_wide 3 1 (omega arith) (omega arith) (makes_unread d r e y _ _ p q (h ∙ ap (seen cs) (near_tree d s top l a)))
+  over_stop cs s x d light top e y r h p q = makes_wide 3 1 (omega arith) (omega arith) (makes_unseen d r e y cs (near s top) (far s top) _ p q h)
 
-  pub over_stop_outer : (cs : List (Cell K)) (s : Lean) (x : Region K) (d : Draft K) (light inner : Seen K) (l l' : Link) (top : Branch K) (e y : StoreFault) (r : Result (Side K) StoreFault) →
-      l ≡ near_link s top → l' ≡ far_link s top → Ok inner ≡ seen cs (tree_of d l) → Err e ≡ seen cs (tree_of d l') → r ≡ Err y → y ≡ e →
-      Makes 3 1 d d r (turned_over cs (gone_of d) s x light (parts_of d top))
+  over_by : {m j : ℕ} (cs : List (Cell K)) (s : Lean) (x : Region K) (d d' : Draft K) (light : Seen K) (inner outer : Side K) (top : Parts K) (a b : ℕ) (t : Bool) (r : Result (Side K) StoreFault) →
+      Ok (seen_of d inner, seen_of d outer) ≡ both_seen cs (near s top) (far s top) → a ≡ side_weight inner → b ≡ side_weight outer → ltb a (2 * b) ≡ t →
+      Makes m j d d' r (turned_by t cs (gone_of d) s x light top.region (seen_of d inner) (seen_of d outer)) → Makes m j d d' r (turned_over cs (gone_of d) s x light top)
   unfolding turned_over
-  over_stop_outer cs s x d light inner l l' top e y r a b h i p q =
-      makes_wide 3 1 (omega arith) (omega arith)
-      (makes_read _ inner _ (h ∙ ap (seen cs) (near_tree d s top l a)) (makes_unread d r e y _ _ p q (i ∙ ap (seen cs) (far_tree d s top l' b))))
+  over_by cs s x d d' light inner outer top a b t r h v w z m =
+      makes_seen cs (near s top) (far s top) (seen_of d inner) (seen_of d outer) _ h
+      (makes_as m (ap (λ u. turned_by u cs (gone_of d) s x light top.region (seen_of d inner) (seen_of d outer))
+      (sym z ∙ both (λ u y. ltb u (2 * y)) (v ∙ sym (weight_seen d inner)) (w ∙ sym (weight_seen d outer)))))
 
-  over_by : {m j : ℕ} (cs : List (Cell K)) (s : Lean) (x : Region K) (d d' : Draft K) (light inner outer : Side K) (l l' : Link) (top : Branch K) (a b : ℕ) (t : Bool) (r : Result (Side K) StoreFault) →
-      l ≡ near_link s top → l' ≡ far_link s top → Ok (seen_of d inner) ≡ seen cs (tree_of d l) → Ok (seen_of d outer) ≡ seen cs (tree_of d l') →
-      a ≡ side_weight inner → b ≡ side_weight outer → ltb a (2 * b) ≡ t →
-      Makes m j d d' r (turned_by t cs (gone_of d) s x (seen_of d light) top.region (seen_of d inner) (seen_of d outer)) →
-      Makes m j d d' r (turned_over cs (gone_of d) s x (seen_of d light) (parts_of d top))
-  unfolding turned_over
-  over_by cs s x d d' light inner outer l l' top a b t r p q h i v w z m =
-      makes_read _ (seen_of d inner) _ (h ∙ ap (seen cs) (near_tree d s top l p))
-      (makes_read _ (seen_of d outer) _ (i ∙ ap (seen cs) (far_tree d s top l' q))
-      (makes_as m (ap (λ u. turned_by u cs (gone_of d) s x (seen_of d light) top.region (seen_of d inner) (seen_of d outer))
-      (sym z ∙ both (λ u y. ltb u (2 * y)) (v ∙ sym (weight_seen d inner)) (w ∙ sym (weight_seen d outer))))))
-
-  pub over_once : (cs : List (Cell K)) (s : Lean) (x : Region K) (d d' : Draft K) (light inner outer : Side K) (l l' : Link) (top : Branch K) (a b : ℕ) (t : Side K) →
-      l ≡ near_link s top → l' ≡ far_link s top → Ok (seen_of d inner) ≡ seen cs (tree_of d l) → Ok (seen_of d outer) ≡ seen cs (tree_of d l') →
-      a ≡ side_weight inner → b ≡ side_weight outer → a < 2 * b →
-      Joins 2 d d' t (single s x (seen_of d light) top.region (seen_of d inner) (seen_of d outer)) →
-      Makes 3 1 d d' (Ok t) (turned_over cs (gone_of d) s x (seen_of d light) (parts_of d top))
+  pub over_once : (cs : List (Cell K)) (s : Lean) (x : Region K) (d d' : Draft K) (light : Seen K) (inner outer : Side K) (top : Parts K) (a b : ℕ) (t : Side K) →
+      Ok (seen_of d inner, seen_of d outer) ≡ both_seen cs (near s top) (far s top) → a ≡ side_weight inner → b ≡ side_weight outer → a < 2 * b →
+      Joins 2 d d' t (single s x light top.region (seen_of d inner) (seen_of d outer)) → Makes 3 1 d d' (Ok t) (turned_over cs (gone_of d) s x light top)
   unfolding turned_by
-  over_once cs s x d d' light inner outer l l' top a b t p q h i v w z j =
-      makes_wide 3 1 (omega arith) (omega arith) (over_by cs s x d d' light inner outer l l' top a b true (Ok t) p q h i v w (lt-ltb a (2 * b) z) (makes_joined j))
+  over_once cs s x d d' light inner outer top a b t h v w z j =
+      makes_wide 3 1 (omega arith) (omega arith) (over_by cs s x d d' light inner outer top a b true (Ok t) h v w (lt-ltb a (2 * b) z) (makes_joined j))
 
-  pub over_twice : (cs : List (Cell K)) (s : Lean) (x : Region K) (d d' : Draft K) (light inner outer : Side K) (l l' : Link) (top : Branch K) (a b : ℕ) (r : Result (Side K) StoreFault) →
-      l ≡ near_link s top → l' ≡ far_link s top → Ok (seen_of d inner) ≡ seen cs (tree_of d l) → Ok (seen_of d outer) ≡ seen cs (tree_of d l') →
-      a ≡ side_weight inner → b ≡ side_weight outer → 2 * b ≤ a →
-      Makes 3 1 d d' r (double cs (gone_of d) s x (seen_of d light) top.region (seen_of d inner) (seen_of d outer)) →
-      Makes 3 1 d d' r (turned_over cs (gone_of d) s x (seen_of d light) (parts_of d top))
+  pub over_twice : (cs : List (Cell K)) (s : Lean) (x : Region K) (d d' : Draft K) (light : Seen K) (inner outer : Side K) (top : Parts K) (a b : ℕ) (r : Result (Side K) StoreFault) →
+      Ok (seen_of d inner, seen_of d outer) ≡ both_seen cs (near s top) (far s top) → a ≡ side_weight inner → b ≡ side_weight outer → 2 * b ≤ a →
+      Makes 3 1 d d' r (double cs (gone_of d) s x light top.region (seen_of d inner) (seen_of d outer)) → Makes 3 1 d d' r (turned_over cs (gone_of d) s x light top)
   unfolding turned_by
-  over_twice cs s x d d' light inner outer l l' top a b r p q h i v w z m =
-      over_by cs s x d d' light inner outer l l' top a b false r p q h i v w (le-ltb a (2 * b) z) m
-
-  pub rotates_right : {m j : ℕ} {d d' : Draft K} {r : Result (Side K) StoreFault} (cs : List (Cell K)) (gone : List (Numbered K)) (s : Lean) (x : Region K) (a b : Seen K) → s ≡ Right →
-      Makes m j d d' r (turned cs gone s x a b) → Makes m j d d' r (rotated cs gone s x a b)
-  unfolding rotated
-  rotates_right cs gone s x a b e q = makes_as q (ap (λ t. turned cs gone t x a b) e ∙ ap (λ t. rotated cs gone t x a b) (sym e))
-
-  pub rotates_left : {m j : ℕ} {d d' : Draft K} {r : Result (Side K) StoreFault} (cs : List (Cell K)) (gone : List (Numbered K)) (s : Lean) (x : Region K) (a b : Seen K) → s ≡ Left →
-      Makes m j d d' r (turned cs gone s x b a) → Makes m j d d' r (rotated cs gone s x a b)
-  unfolding rotated
-  rotates_left cs gone s x a b e q = makes_as q (ap (λ t. turned cs gone t x b a) e ∙ ap (λ t. rotated cs gone t x a b) (sym e))
+  over_twice cs s x d d' light inner outer top a b r h v w z m =
+      over_by cs s x d d' light inner outer top a b false r h v w (le-ltb a (2 * b) z) m
 
   -- the rule at the weights of two sides
   pub balance_by : {m j : ℕ} (cs : List (Cell K)) (x : Region K) (d d' : Draft K) (left right : Side K) (a b : ℕ) (o : Option Lean) (r : Result (Side K) StoreFault) →

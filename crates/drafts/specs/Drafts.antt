@@ -1,5 +1,5 @@
 -- What a draft means: each link the tree that it leads to, and the nodes that leave.
-use Rattle.std.specs.Prelude.{◌≡◌, ℕ, zero, suc, ◌+◌, ◌≤◌, Bool, true, false, List, take, Some, None, Ok, Err, Option, Result, ◌==◌}
+use Rattle.std.specs.Prelude.{◌≡◌, ℕ, zero, suc, ◌+◌, ◌≤◌, Bool, true, false, List, length, Some, None, Ok, Err, Option, Result, ◌==◌}
 use Rattle.std.specs.List.{slice_get}
 use Rattle.store.specs.declared.fault.StoreFault.{StoreFault}
 use Rattle.drafts.specs.declared.link.Link.{Link}
@@ -17,6 +17,15 @@ use Rattle.drafts.specs.Grown.{Grown, kept, built, Seen, nothing, stored, fresh,
 abbrev pub height : Link → ℕ
 height (Old n) = 0
 height (New i) = suc i
+
+abbrev pub other_side : Lean → Lean
+other_side Right = Left
+other_side Left = Right
+
+-- of two things, the one on a side
+abbrev pub on_side : {A : Type 0} → Lean → A → A → A
+on_side Right l r = r
+on_side Left l r = l
 
 abbrev pub by_fine : Bool → Type 0 → Type 0 → Type 0
 by_fine true a b = a
@@ -48,18 +57,18 @@ module _ {K : Type 0} where
   fine (suc k) es (New i) = by_fine (i == k) (at_fine (slice_get es k) (λ l. fine k es l)) (fine k es (New i))
 
   abbrev pub tree_of : Draft K → Link → Grown K
-  tree_of d l = grown d.count d.made l
+  tree_of d l = grown (length d.made) d.made l
 
   abbrev pub Fine : Draft K → Link → Type 0
-  Fine d l = fine d.count d.made l
+  Fine d l = fine (length d.made) d.made l
 
   abbrev pub gone_of : Draft K → List (Numbered K)
-  gone_of d = take d.out d.gone
+  gone_of d = d.gone
 
   -- a draft that has only got more: at most m new nodes, and j nodes that leave
   pub record Grew (m j : ℕ) (d d' : Draft K) : Type 0 where
-    pub few : d'.count ≤ d.count + m
-    pub few_out : d'.out ≤ d.out + j
+    pub few : length d'.made ≤ length d.made + m
+    pub few_out : length d'.gone ≤ length d.gone + j
     pub stays : (l : Link) → Fine d l → Fine d' l
     pub same : (l : Link) → Fine d l → tree_of d' l ≡ tree_of d l
 
@@ -94,13 +103,8 @@ module _ {K : Type 0} where
   abbrev pub parts_of : Draft K → Branch K → Parts K
   parts_of d b = record { region = b.region; left = tree_of d b.left; right = tree_of d b.right }
 
-  abbrev pub near_link : Lean → Branch K → Link
-  near_link Right b = b.left
-  near_link Left b = b.right
-
-  abbrev pub far_link : Lean → Branch K → Link
-  far_link Right b = b.right
-  far_link Left b = b.left
+  abbrev pub link_on : Lean → Branch K → Link
+  link_on s b = on_side s b.left b.right
 
   abbrev pub good_told : Draft K → Result (Side K) StoreFault → Type 0
   good_told d (Ok s) = Good d s
@@ -109,6 +113,15 @@ module _ {K : Type 0} where
   abbrev pub seen_told : Draft K → Result (Side K) StoreFault → Result (Seen K) StoreFault
   seen_told d (Ok s) = Ok (seen_of d s)
   seen_told d (Err e) = Err e
+
+  -- the same of two sides
+  abbrev pub both_good : Draft K → Result (Side K × Side K) StoreFault → Type 0
+  both_good d (Ok p) = Good d p.0 × Good d p.1
+  both_good d (Err e) = Unit {0}
+
+  abbrev pub both_told : Draft K → Result (Side K × Side K) StoreFault → Result (Seen K × Seen K) StoreFault
+  both_told d (Ok p) = Ok (seen_of d p.0, seen_of d p.1)
+  both_told d (Err e) = Err e
 
   abbrev pub built_told : Draft K → Result (Side K) StoreFault → Result (Built K) StoreFault
   built_told d (Ok s) = Ok (record { top = seen_of d s; gone = gone_of d })

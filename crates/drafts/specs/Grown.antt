@@ -72,6 +72,9 @@ module _ {K : Type 0} where
   seen cs (kept n) = cond (n == 0) (Ok nothing) (node_seen n (read_answer cs n))
   seen cs (built s x l r) = Ok (fresh s x l r)
 
+  abbrev pub both_seen : List (Cell K) → Grown K → Grown K → Result (Seen K × Seen K) StoreFault
+  both_seen cs l r = bind (seen cs l) (λ a. bind (seen cs r) (λ b. Ok (a, b)))
+
   -- a new node over two sides
   unfoldable pub joined : Region K → Seen K → Seen K → Seen K
   joined x l r = fresh (size_over (weight l) (weight r)) x (tree l) (tree r)

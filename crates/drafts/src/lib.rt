@@ -6,7 +6,7 @@ mod link;
 mod sides;
 mod turns;
 
-pub use draft::{Draft, add, entry, gone_at, gone_count, leave, wipe};
+pub use draft::{Draft, MOST_NEW};
 pub use link::{Branch, Lean, Link, Numbered, Side};
-pub use sides::{join, link_to, see, size_over, take_apart, weigh};
-pub use turns::{balance, overweight, rotate};
+pub use sides::size_over;
+pub use turns::overweight;

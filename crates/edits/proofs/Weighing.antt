@@ -7,7 +7,6 @@ use Rattle.store.specs.Cells.{Cell}
 use Rattle.drafts.specs.declared.link.Lean.{Lean}
 use Rattle.drafts.specs.Grown.{kept, tree}
 use Rattle.commits.specs.declared.writes.Joint.{Joint}
-use Rattle.commits.specs.declared.writes.Joint.TheVariants.{Root, Under}
 use Rattle.search.specs.Paths.{lowest}
 use Rattle.commits.specs.Commits.{news, JointInside}
 use Rattle.commits.proofs.Bounds.{bind_inv, read_from, seen_fair, SeenInside, Bound, rotated_bound}
@@ -35,11 +34,11 @@ module _ {K : Type 0} where
       sized_bound_as (length cs) w _ k.2
       (record { node = read_from cs n i.0 i.1; left = a.inside; right = b.inside; few = rw (a.same, b.same) })
 
-  joint_by_inside : (cs : List (Cell K)) (n : ℕ) (o : Option ℕ) (j : Joint K) → Ok j ≡ joint_by cs n o → JointInside (length cs) j
-  joint_by_inside cs n None j e = let q : Root ≡ j = cc in subst (JointInside (length cs)) q tt
+  joint_by_inside : (cs : List (Cell K)) (n : ℕ) (o : Option ℕ) (j : Option (Joint K)) → Ok j ≡ joint_by cs n o → JointInside (length cs) j
+  joint_by_inside cs n None j e = let q : None ≡ j = cc in subst (JointInside (length cs)) q tt
   joint_by_inside cs n (Some p) j e =
       let i = bind_inv _ _ j e in
-      let q : Under (record { number = p; node = i.0 }) (side_of n i.0) ≡ j = let f = i.2 in cc in
+      let q : Some (record { above = record { number = p; node = i.0 }; side = side_of n i.0 }) ≡ j = let f = i.2 in cc in
       subst (JointInside (length cs)) q (read_from cs p i.0 i.1)
 
   pub record TurnedBound (N : ℕ) (t : Turned K) : Type 0 where

@@ -14,7 +14,6 @@ use Rattle.edits.specs.declared.fault.Refusal.{Refusal}
 use Rattle.edits.specs.declared.fault.Refusal.TheVariants.{Resting, Crowded}
 use Rattle.edits.specs.declared.fault.Doing.TheVariants.{Rotation}
 use Rattle.commits.specs.declared.writes.Joint.{Joint}
-use Rattle.commits.specs.declared.writes.Joint.TheVariants.{Root, Under}
 use Rattle.edits.specs.declared.pending.Weighed.{Weighed}
 use Rattle.edits.specs.declared.pending.Plan.{Plan}
 use Rattle.search.specs.Paths.{lowest, above}
@@ -31,7 +30,7 @@ pub record Sized (K : Type 0) : Type 0 where
 -- a rotation, and where it is linked
 pub record Turned (K : Type 0) : Type 0 where
   pub built : Built K
-  pub joint : Joint K
+  pub joint : Option (Joint K)
 
 -- what an accepted edit makes: the pending path, the root link, and the writes in their order
 pub record Change (K : Type 0) : Type 0 where
@@ -57,11 +56,11 @@ module _ {K : Type 0} where
   side_of n v = cond (v.left == n) Left Right
 
   -- which link leads to node n: the root link, or one of the node above it
-  abbrev pub joint_by : List (Cell K) → ℕ → Option ℕ → Result (Joint K) StoreFault
-  joint_by cs n None = Ok Root
-  joint_by cs n (Some p) = bind (read_answer cs p) (λ v. Ok (Under (record { number = p; node = v }) (side_of n v)))
+  abbrev pub joint_by : List (Cell K) → ℕ → Option ℕ → Result (Option (Joint K)) StoreFault
+  joint_by cs n None = Ok None
+  joint_by cs n (Some p) = bind (read_answer cs p) (λ v. Ok (Some (record { above = record { number = p; node = v }; side = side_of n v })))
 
-  unfoldable pub joint_at : List (Cell K) → List ℕ → ℕ → Result (Joint K) StoreFault
+  unfoldable pub joint_at : List (Cell K) → List ℕ → ℕ → Result (Option (Joint K)) StoreFault
   joint_at cs path n = joint_by cs n (lowest path)
 
   -- the rotation of a node that was sized, and the link to it
@@ -131,8 +130,18 @@ module _ {K : Type 0} where
     pub inside : Within (length cs) (told turns.numbers)
 
   -- inner steps in a draft
+  abbrev pub sized_by : Draft K → Weighed K → Sized K
+  sized_by d w = record { node = w.node; left = seen_of d w.left; right = seen_of d w.right }
+
+  -- a node that was weighed over an empty draft
+  pub record Fresh (d : Draft K) (w : Weighed K) : Type 0 where
+    pub made : d.made ≡ []
+    pub gone : d.gone ≡ []
+    pub left : Good d w.left
+    pub right : Good d w.right
+
   abbrev pub sized_in : Draft K → Result (Weighed K) StoreFault → Result (Sized K) StoreFault
-  sized_in d (Ok w) = Ok (record { node = w.node; left = seen_of d w.left; right = seen_of d w.right })
+  sized_in d (Ok w) = Ok (sized_by d w)
   sized_in d (Err e) = Err e
 
   abbrev pub good_in : Draft K → Result (Weighed K) StoreFault → Type 0

@@ -3,8 +3,10 @@
 
 mod fault;
 mod pending;
+mod tree;
 
 pub use commits::Joint;
-pub use fault::{Doing, Refusal, TreeFault, put_to};
-pub use pending::{Plan, Weighed, advance};
+pub use fault::{Doing, During, Refusal, TreeFault};
+pub use pending::{Plan, Weighed};
 pub use search::{Found, Path, Sought, descend, find_free};
+pub use tree::Tree;

@@ -52,18 +52,17 @@ module _ {K : Type 0} (cs : List (Cell K)) where
   pub room_left : (root size N : ℕ) (r : Result ℕ StoreFault) → r ≡ size_by cs (link_number root) → Ok size ≡ during Copy r → N ≡ length cs - 128 → size < N → Ok tt ≡ room_at cs root
   room_left root size N r a h n l = ap (λ b. cond b (Err Full) (Ok tt)) (sym (lt-leb (length cs - 128) size (omega arith))) ∙ room_sized root size r a h
 
-  pub few_free : (want count : ℕ) (ns : List ℕ) → Finds cs want ns → count ≡ length ns → count < want → Err Crowded ≡ free_for cs want
+  pub few_free : (want : ℕ) (ns : List ℕ) → Finds cs want ns → length ns < want → Err Crowded ≡ free_for cs want
   unfolding free_for
-  few_free want count ns f e l = let h : free_count cs < want = omega (arith, f.many) in rw (lt-ltb (free_count cs) want h)
+  few_free want ns f l = let h : free_count cs < want = omega (arith, f.many) in rw (lt-ltb (free_count cs) want h)
 
-  pub free_found : (want : ℕ) (f : Found) → want ≤ 96 → Finds cs want (found_of f) → f.used ≡ 0 → f.count ≤ want → f.count ≡ length (found_of f) → want ≤ f.count → Ready cs want f
+  pub free_found : (want : ℕ) (f : Found) → want ≤ 96 → Finds cs want (found_of f) → f.used ≡ 0 → want ≤ length (found_of f) → Ready cs want f
   unfolding free_for
-  free_found want f w q u a b h =
+  free_found want f w q u h =
       let l : want ≤ free_count cs = omega (arith, q.many) in
       let e = unused f u in
       record {
         asked = rw (le-ltb (free_count cs) want l);
         chosen = subst (Chosen cs) (sym e) q.chosen;
-        many = ap length e ∙ omega arith;
-        few = omega arith;
+        many = ap length e ∙ omega (arith, q.many);
       }

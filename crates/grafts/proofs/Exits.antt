@@ -29,14 +29,14 @@ use Rattle.grafts.specs.Drafted.{Begins}
 use Rattle.grafts.proofs.Asking.{unpassed}
 
 -- a way that was taken
-pub begins_err : (way : List ℕ) (e : Refusal) (told : Result Way Refusal) → Begins way (Err e) told → Err e ≡ told
-begins_err way e (Ok w) p = let q = p.0 in let z : ◌≡◌ {A = ℕ} 0 1 = cc in let u : ⊥ = omega arith in elim u [ ]
-begins_err way e (Err f) p = let q : e ≡ f = cc in ap Err q
+pub begins_err : (e : Refusal) (told : Result Way Refusal) → Begins (Err e) told → Err e ≡ told
+begins_err e (Ok w) p = let z : ◌≡◌ {A = ℕ} 0 1 = cc in let u : ⊥ = omega arith in elim u [ ]
+begins_err e (Err f) p = let q : e ≡ f = cc in ap Err q
 
-pub begins_ok : (way : List ℕ) (end : Option ℕ) (told : Result Way Refusal) → Begins way (Ok end) told → Ok (record { passed = way; end = end }) ≡ told
+pub begins_ok : (way : List ℕ) (end : Option ℕ) (told : Result Way Refusal) → Begins (Ok (way, end)) told → Ok (record { passed = way; end = end }) ≡ told
 begins_ok way end (Ok w) p =
-    let q : end ≡ w.end = let h = p.0 in cc in
-    ap (λ x. Ok (record { passed = x; end = end })) p.1 ∙ ap (λ x. Ok (record { passed = w.passed; end = x })) q
+    let q : ◌≡◌ {A = List ℕ × Option ℕ} (way, end) (w.passed, w.end) = cc in
+    ap (λ z. Ok (record { passed = z.0; end = z.1 })) q
 begins_ok way end (Err f) p = let z : ◌≡◌ {A = ℕ} 0 1 = cc in let u : ⊥ = omega arith in elim u [ ]
 
 held_number : {K : Type 0} (way : List ℕ) (n : ℕ) (v : Node K) (h : Held K) → ◌≡◌ {A = Result (Held K) Refusal} (Ok h) (Ok (record { way = way; node = numbered n v })) → n ≡ h.node.number
@@ -156,23 +156,19 @@ module _ {K : Type 0} (cs : List (Cell K)) (path : List ℕ) (root : ℕ) where
 
 -- what was drafted for a put
 pub record Sprouted {K : Type 0} (N : ℕ) (d : Draft K) (l : Link) (x : Region K) : Type 0 where
-  pub count : d.count ≤ 96
-  pub out : d.out ≤ 96
   pub link : Fine d l
   pub side : tree_of d l ≡ tree (sprout x)
   pub none : gone_of d ≡ []
   pub news_one : news (tree_of d l) ≤ 1
   pub gone : GoneInside N (gone_of d)
 
-pub sprouted : {K : Type 0} (N : ℕ) (d d' : Draft K) (x : Region K) (s : Side K) (l : Link) → d.count ≡ 0 → d.out ≡ 0 → gone_of d ≡ [] →
+pub sprouted : {K : Type 0} (N : ℕ) (d d' : Draft K) (x : Region K) (s : Side K) (l : Link) → gone_of d ≡ [] →
     Joins 1 d d' s (joined x (seen_of d Empty) (seen_of d Empty)) → l ≡ link_of s → Sprouted N d' l x
 unfolding seen_of news tree joined
-sprouted N d d' x s l c o n j e =
+sprouted N d d' x s l n j e =
     let side = ap (tree_of d') e ∙ tree_seen d' s j.good ∙ ap tree j.is in
     let none = j.gone ∙ n in
     record {
-      count = omega (arith, j.grew.few);
-      out = omega (arith, j.grew.few_out);
       link = subst (λ k. Fine d' k) (sym e) (good_fine d' s j.good);
       side = side;
       none = none;

@@ -50,12 +50,12 @@ module _ {K : Type 0} where
 
   module _ (cs : List (Cell K)) (p : Numbered K) where
     -- with an empty side the other one is left as it is
-    pub left_empty : (d d₀ : Draft K) → None ≡ link_number p.node.left → d.out ≡ 0 → gone_of d₀ ≡ gone_of d ++ (p ∷ []) → graft_in d₀ (Ok (Old p.node.right)) ≡ drop_graft cs p
+    pub left_empty : (d d₀ : Draft K) → None ≡ link_number p.node.left → gone_of d ≡ [] → gone_of d₀ ≡ gone_of d ++ (p ∷ []) → graft_in d₀ (Ok (Old p.node.right)) ≡ drop_graft cs p
     unfolding drop_graft grown
     left_empty d d₀ a z e =
         ap (λ g. Ok (record { side = kept p.node.right; gone = g })) (only d d₀ p z e) ∙ ap (λ o. drop_by cs p o (link_number p.node.right)) a
 
-    pub right_empty : (d d₀ : Draft K) (n : ℕ) → Some n ≡ link_number p.node.left → None ≡ link_number p.node.right → d.out ≡ 0 → gone_of d₀ ≡ gone_of d ++ (p ∷ []) →
+    pub right_empty : (d d₀ : Draft K) (n : ℕ) → Some n ≡ link_number p.node.left → None ≡ link_number p.node.right → gone_of d ≡ [] → gone_of d₀ ≡ gone_of d ++ (p ∷ []) →
         graft_in d₀ (Ok (Old p.node.left)) ≡ drop_graft cs p
     unfolding drop_graft grown
     right_empty d d₀ n a b z e =
@@ -108,9 +108,6 @@ module _ {K : Type 0} where
           record { link = subst (fine_in d) (during_ok Copy r l o) f; few = b.few; gone = b.gone }
 
     -- SPLIT
-
-    pub parts_as : (t : Result (Built K) StoreFault) (a b x y : Region K) → t ≡ parted cs p a b → a ≡ x → b ≡ y → t ≡ parted cs p x y
-    parts_as t a b x y e f h = cc
 
     module _ (lower upper : Region K) where
       pub parted_stopped : (d : Draft K) (r : Result (Side K) StoreFault) (e : TreeFault) → built_told d r ≡ parted cs p lower upper → Err e ≡ during Copy r → Err (Refused e) ≡ refused_in Copy (parted cs p lower upper)

@@ -1,5 +1,5 @@
 -- What the steps of put, drop and split deliver, said of the code's own values.
-use Rattle.std.specs.Prelude.{◌≡◌, ℕ, ◌≤◌, List, length, Ok, Err, Option, Result}
+use Rattle.std.specs.Prelude.{◌≡◌, ℕ, List, length, Ok, Err, Option, Result}
 use Rattle.store.specs.Cells.{Cell}
 use Rattle.store.specs.declared.fault.StoreFault.{StoreFault}
 use Rattle.drafts.specs.declared.link.Link.{Link}
@@ -19,22 +19,21 @@ module _ {K : Type 0} where
     pub asked : Ok tt ≡ free_for cs want
     pub chosen : Chosen cs (left_of f)
     pub many : length (left_of f) ≡ want
-    pub few : f.count ≤ 96
 
   abbrev pub FindsFree : List (Cell K) → ℕ → Result Found Refusal → Type 0
   FindsFree cs want (Ok f) = Ready cs want f
   FindsFree cs want (Err e) = Err e ≡ free_for cs want
 
--- the way down was taken: the answer, and the path
-abbrev pub Begins : List ℕ → Result (Option ℕ) Refusal → Result Way Refusal → Type 0
-Begins way r (Ok w) = (r ≡ Ok w.end) × (way ≡ w.passed)
-Begins way r (Err e) = r ≡ Err e
+-- the way down was taken: the path, and the answer
+abbrev pub Begins : Result (List ℕ × Option ℕ) Refusal → Result Way Refusal → Type 0
+Begins r (Ok w) = r ≡ Ok (w.passed, w.end)
+Begins r (Err e) = r ≡ Err e
 
 module _ {K : Type 0} where
-  -- the node that holds a key was found: it, and the path
-  abbrev pub Holds : List ℕ → Result (Numbered K) Refusal → Result (Held K) Refusal → Type 0
-  Holds way r (Ok h) = (r ≡ Ok h.node) × (way ≡ h.way)
-  Holds way r (Err e) = r ≡ Err e
+  -- the node that holds a key was found: the path, and it
+  abbrev pub Holds : Result (List ℕ × Numbered K) Refusal → Result (Held K) Refusal → Type 0
+  Holds r (Ok h) = r ≡ Ok (h.way, h.node)
+  Holds r (Err e) = r ≡ Err e
 
   -- what takes a link's place was drafted
   abbrev pub graft_in : Draft K → Result Link StoreFault → Result (Graft K) StoreFault

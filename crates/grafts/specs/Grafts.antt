@@ -1,7 +1,7 @@
 -- Put, drop and split: a search ends at a link, and what stands there gives way to what is drafted for it.
 use Rattle.std.specs.Prelude.{ℕ, ◌-◌, Bool, true, false, cond, List, [], ◌∷◌, length, Some, None, Ok, Err, Option, Result, nat_le, nat_lt}
-use Rattle.keys.specs.declared.order.Order.{Order}
-use Rattle.keys.specs.declared.order.Order.TheVariants.{Below, Same, Above}
+use Rattle.std.specs.declared.cmp.Ordering.{Ordering}
+use Rattle.std.specs.declared.cmp.Ordering.TheVariants.{Less, Equal, Greater}
 use Rattle.keys.specs.Orders.{compared}
 use Rattle.store.specs.declared.node.Node.{Node}
 use Rattle.store.specs.declared.node.Region.{Region}
@@ -18,7 +18,6 @@ use Rattle.search.specs.Paths.{lowest}
 use Rattle.search.specs.Searches.{Way, side_for, descended}
 use Rattle.search.specs.Frees.{free_count}
 use Rattle.commits.specs.declared.writes.Joint.{Joint}
-use Rattle.commits.specs.declared.writes.Joint.TheVariants.{Root, Under}
 use Rattle.commits.specs.Commits.{placed, root_after, committed}
 use Rattle.walks.specs.Walks.{Graft, graft_of, numbered, sprout, merged, parted}
 use Rattle.edits.specs.declared.fault.Doing.TheVariants.{Search, Copy}
@@ -44,17 +43,17 @@ abbrev pub holder : Option ℕ → Result ℕ Refusal
 holder None = Err Missing
 holder (Some n) = Ok n
 
-abbrev pub tells_same_order : Order → Bool
-tells_same_order Below = false
-tells_same_order Same = true
-tells_same_order Above = false
+abbrev pub tells_same_order : Ordering → Bool
+tells_same_order Less = false
+tells_same_order Equal = true
+tells_same_order Greater = false
 
-abbrev pub tells_same : {F : Type 0} → Result Order F → Bool
+abbrev pub tells_same : {F : Type 0} → Result Ordering F → Bool
 tells_same (Ok o) = tells_same_order o
 tells_same (Err f) = false
 
 -- whether two keys are the same: an ill-formed key is the same as none
-unfoldable pub same_by : {K F : Type 0} → (K → Option F) → (K → K → Order) → K → K → Bool
+unfoldable pub same_by : {K F : Type 0} → (K → Option F) → (K → K → Ordering) → K → K → Bool
 same_by fault order a b = tells_same (compared (fault a) (fault b) (order a b))
 
 -- a split's key differs from the low key
@@ -94,15 +93,15 @@ module _ {K : Type 0} where
   free_for cs want = cond (nat_lt (free_count cs) want) (Err Crowded) (Ok tt)
 
   -- THE LINK at which a search ended: the root link, or the one by which it left the lowest node of its way
-  abbrev pub joint_from : (K → K → Bool) → Sought K → List (Cell K) → Option ℕ → Result (Joint K) StoreFault
-  joint_from less x cs None = Ok Root
-  joint_from less x cs (Some p) = bind (read_answer cs p) (λ v. Ok (Under (numbered p v) (way_side (side_for less x v))))
+  abbrev pub joint_from : (K → K → Bool) → Sought K → List (Cell K) → Option ℕ → Result (Option (Joint K)) StoreFault
+  joint_from less x cs None = Ok None
+  joint_from less x cs (Some p) = bind (read_answer cs p) (λ v. Ok (Some (record { above = numbered p v; side = way_side (side_for less x v) })))
 
-  unfoldable pub joint_for : (K → K → Bool) → Sought K → List (Cell K) → List ℕ → Result (Joint K) StoreFault
+  unfoldable pub joint_for : (K → K → Bool) → Sought K → List (Cell K) → List ℕ → Result (Option (Joint K)) StoreFault
   joint_for less x cs way = joint_from less x cs (lowest way)
 
   -- what was drafted takes the place of that link; the nodes of the way are then pending
-  abbrev pub graft_change : List ℕ → ℕ → ℕ → List ℕ → Graft K → Joint K → Change K
+  abbrev pub graft_change : List ℕ → ℕ → ℕ → List ℕ → Graft K → Option (Joint K) → Change K
   graft_change way root sessions ns g j =
       let p = placed g.side ns in record { path = way; root = root_after j p.top root; writes = committed j p sessions g.gone }
 

@@ -1,105 +1,72 @@
 // What an edit asks before it drafts anything: rest, a fitting end of the search, room in the pool, free nodes.
 ghost use Rattle.std.specs.Prelude.{◌≡◌, ◌≤◌};
-ghost use Rattle.search.specs.Paths.{held};
 ghost use Rattle.store.specs.Nodes.{link_number};
-ghost use Rattle.grafts.specs.Grafts.{rest_at, vacant, holder, same_by, tells_same_order, apart, size_by, room_at, drop_needs};
+ghost use Rattle.grafts.specs.Grafts.{rest_at, vacant, same_by, apart, size_by, room_at, drop_needs};
 ghost use Rattle.grafts.specs.Drafted.{FindsFree};
 
-use edits::{Doing, Refusal, put_to};
-use keys::{Key, Order, Ordered};
-use search::{Found, Path, find_free};
+use drafts::MOST_NEW;
+use edits::{Doing, During, Refusal, Tree};
+use keys::Ordered;
+use search::{Found, find_free};
+use std::cmp::Ordering;
 use store::{Node, Store, StoreFault, linked};
 
+// The seats, and the nodes that are kept for copies.
+const RESERVED: usize = 32 + MOST_NEW;
+
 // An edit begins at rest.
-pub(crate) fn at_rest(path: &Path) -> Result<(), Refusal>
-    ensures { result ≡ rest_at (held path.now) }
+pub(crate) fn at_rest(tree: &Tree) -> Result<(), Refusal>
+    ensures { result ≡ rest_at tree.now.path }
 {
-    if path.len() > 0 {
-        return Err(Refusal::Busy);
-    }
-    Ok(())
+    tree.path.last().map_or(Ok(()), |_| Err(Refusal::Busy))
 }
 
 // The search for a range has met no region.
 pub(crate) fn meets_none(end: Option<u16>) -> Result<(), Refusal>
     ensures { result ≡ vacant end }
 {
-    match end {
-        None => Ok(()),
-        Some(_) => Err(Refusal::Overlaps),
-    }
+    end.map_or(Ok(()), |_| Err(Refusal::Overlaps))
 }
 
-// The search for a key has ended at a node.
-pub(crate) fn meets_one(end: Option<u16>) -> Result<u16, Refusal>
-    ensures { result ≡ holder end }
-{
-    match end {
-        None => Err(Refusal::Missing),
-        Some(n) => Ok(n),
-    }
-}
-
-fn tells_same(order: Order) -> bool
-    ensures { result ≡ tells_same_order order }
-{
-    match order {
-        Order::Below => false,
-        Order::Same => true,
-        Order::Above => false,
-    }
-}
-
-// Whether two keys are the same; an ill-formed key is the same as none.
-fn same<K: Ordered>(a: &K, b: &K) -> bool
-    ensures { result ≡ same_by K.Ordered.fault K.Ordered.order a.now b.now }
-{
-    match a.compare(b) {
-        Ok(order) => tells_same(order),
-        Err(_) => false,
-    }
-}
-
-// A region is split past its low key.
+// A region is split past its low key; an ill-formed key is the same as none.
+#[tactic(auto, unfolding(crate::specs::Grafts::same_by))]
 pub(crate) fn past_low<K: Ordered>(low: &K, key: &K) -> Result<(), Refusal>
     ensures { result ≡ apart (same_by K.Ordered.fault K.Ordered.order low.now key.now) }
 {
-    if same(low, key) {
-        return Err(Refusal::SameAsLow);
+    match low.compare(key) {
+        Ok(Ordering::Equal) => Err(Refusal::SameAsLow),
+        _ => Ok(()),
     }
-    Ok(())
 }
 
 // How many nodes the tree at a link has, as its top says.
 fn size_at<S: Store>(store: &S, link: u16) -> Result<u16, StoreFault>
     ensures { result ≡ size_by (S.Store.cells store.now) (link_number link) }
 {
-    match linked(link) {
-        None => Ok(0),
-        Some(n) => {
-            let v = store.read(n as usize)?;
-            Ok(v.size)
-        }
-    }
+    let Some(n) = linked(link) else {
+        return Ok(0);
+    };
+    let v = store.read(n as usize)?;
+    Ok(v.size)
 }
 
-// There is room for one more region: 32 nodes are seats, and 96 are kept for copies.
+// There is room for one more region.
 pub(crate) fn has_room<S: Store>(store: &S, root: u16) -> Result<(), Refusal>
     ensures { result ≡ room_at (S.Store.cells store.now) root }
 {
-    let size = put_to(Doing::Copy, size_at(store, root))?;
-    if store.count().saturating_sub(128) <= size as usize {
+    let size = size_at(store, root).during(Doing::Copy)?;
+    if store.count().saturating_sub(RESERVED) <= size as usize {
         return Err(Refusal::Full);
     }
     Ok(())
 }
 
 // As many free nodes as the edit may take, from the cursor on.
-pub(crate) fn free_nodes<S: Store>(store: &S, cursor: u16, want: usize) -> Result<Found, Refusal>
+pub(crate) fn free_nodes<S: Store>(store: &S, tree: &Tree, want: usize) -> Result<Found, Refusal>
     requires { want ≤ 96 }
     ensures { FindsFree (S.Store.cells store.now) want result }
 {
-    let found = put_to(Doing::Copy, find_free(store, cursor, want))?;
+    let found = find_free(store, tree.cursor, want).during(Doing::Copy)?;
     if found.len() < want {
         return Err(Refusal::Crowded);
     }
@@ -112,8 +79,7 @@ pub(crate) fn wanted<K: Copy>(v: &Node<K>) -> usize
     ensures few { result ≤ 96 }
 {
     match (linked(v.left), linked(v.right)) {
-        (None, _) => 0,
-        (Some(_), None) => 0,
-        (Some(_), Some(_)) => 96,
+        (Some(_), Some(_)) => MOST_NEW,
+        _ => 0,
     }
 }

@@ -1,6 +1,6 @@
 // Drop: with an empty side the other one takes the node's place; else the least region of the right side rises.
-ghost use Rattle.std.specs.Prelude.{◌≡◌, ◌≤◌};
-ghost use Rattle.search.specs.Paths.{held};
+ghost use Rattle.std.specs.Prelude.{◌≡◌, []};
+ghost use Rattle.drafts.specs.Drafts.{gone_of};
 ghost use Rattle.search.specs.Searches.{less_by};
 ghost use Rattle.edits.specs.Calls.{EditsInside};
 ghost use Rattle.grafts.specs.Grafts.{drop_graft, drop_told};
@@ -9,9 +9,9 @@ ghost use Rattle.grafts.specs.Drafted.{graft_in, fine_in};
 use crate::asks::{free_nodes, wanted};
 use crate::ends::finish;
 use crate::holding::hold;
-use drafts::{Draft, Link, Numbered, leave, link_to, wipe};
-use edits::{Doing, Refusal, put_to};
-use search::{Path, Sought};
+use drafts::{Draft, Link, Numbered};
+use edits::{Doing, During, Refusal, Tree};
+use search::Sought;
 use store::{Store, StoreFault, linked};
 use walks::merge;
 
@@ -21,24 +21,23 @@ fn replace<S: Store>(
     draft: &mut Draft<S::Key>,
     p: &Numbered<S::Key>,
 ) -> Result<Link, StoreFault>
-    requires count { draft.old.count ≡ 0 }
-    requires out { draft.old.out ≡ 0 }
+    requires made { draft.old.made ≡ [] }
+    requires gone { gone_of draft.old ≡ [] }
     ensures value { graft_in draft.new result ≡ drop_graft (S.Store.cells store.now) p.now }
     ensures fine { fine_in draft.new result }
-    ensures few { (draft.new.count ≤ 96) × (draft.new.out ≤ 96) }
 {
     match (linked(p.node.left), linked(p.node.right)) {
         (None, _) => {
-            leave(draft, *p);
+            draft.leave(*p);
             Ok(Link::Old(p.node.right))
         }
         (Some(_), None) => {
-            leave(draft, *p);
+            draft.leave(*p);
             Ok(Link::Old(p.node.left))
         }
         (Some(_), Some(_)) => {
             let side = merge(store, draft, p)?;
-            Ok(link_to(&side))
+            Ok(side.link())
         }
     }
 }
@@ -46,25 +45,18 @@ fn replace<S: Store>(
 // Takes the region that holds the key out of the tree; answers how many nodes are pending.
 pub fn drop_region<S: Store>(
     store: &mut S,
-    root: &mut u16,
-    path: &mut Path,
-    cursor: &mut u16,
+    tree: &mut Tree,
     draft: &mut Draft<S::Key>,
     key: S::Key,
     sessions: u32,
 ) -> Result<usize, Refusal>
-    ensures edits { EditsInside (S.Store.cells store.old) (S.Store.cells store.new) (held path.old) (held path.new) root.old root.new result (drop_told (less_by S.Key.Ordered.fault S.Key.Ordered.order) (S.Store.cells store.old) (held path.old) root.old sessions key) }
+    ensures edits { EditsInside (S.Store.cells store.old) (S.Store.cells store.new) tree.old.path tree.new.path tree.old.root tree.new.root result (drop_told (less_by S.Key.Ordered.fault S.Key.Ordered.order) (S.Store.cells store.old) tree.old.path tree.old.root sessions key) }
     ensures keeps { S.Store.fit store.old → S.Store.fit store.new }
 {
-    wipe(draft);
-    let mut way = Path::new();
-    let p = hold(store, path, *root, &key, &mut way)?;
-    let want = wanted(&p.node);
-    let mut found = free_nodes(store, *cursor, want)?;
-    let top = put_to(Doing::Copy, replace(store, draft, &p))?;
-    *cursor = found.end(*cursor);
+    draft.clear();
+    let (way, p) = hold(store, tree, &key)?;
+    let mut found = free_nodes(store, tree, wanted(&p.node))?;
+    let top = replace(store, draft, &p).during(Doing::Copy)?;
     let sought = Sought::Holder(key);
-    finish(
-        store, root, path, &way, &sought, draft, top, &mut found, sessions,
-    )
+    finish(store, tree, draft, way, &sought, top, &mut found, sessions)
 }

@@ -1,6 +1,5 @@
 // Split: the lower part takes the node's place, over the right side with the upper part as its least.
 ghost use Rattle.std.specs.Prelude.{◌≡◌};
-ghost use Rattle.search.specs.Paths.{held};
 ghost use Rattle.search.specs.Searches.{less_by};
 ghost use Rattle.edits.specs.Calls.{EditsInside};
 ghost use Rattle.grafts.specs.Grafts.{same_by, lower_of, upper_of, split_told};
@@ -8,62 +7,58 @@ ghost use Rattle.grafts.specs.Grafts.{same_by, lower_of, upper_of, split_told};
 use crate::asks::{free_nodes, has_room, past_low};
 use crate::ends::finish;
 use crate::holding::hold;
-use drafts::{Draft, link_to, wipe};
-use edits::{Doing, Refusal, put_to};
-use search::{Path, Sought};
+use drafts::{Draft, MOST_NEW};
+use edits::{Doing, During, Refusal, Tree};
+use search::Sought;
 use store::{Node, Region, Store};
 use walks::part;
 
-// The part of a node's region below the key.
-fn lower_part<K: Copy>(key: K, rows: u64, v: &Node<K>) -> Region<K>
-    ensures { result ≡ lower_of key rows v.now }
+// The parts of a node's region below a key and from it on, with their rows.
+fn cut<K: Copy>(v: &Node<K>, key: K, lower: u64, upper: u64) -> (Region<K>, Region<K>)
+    ensures { result ≡ (lower_of key lower v.now, upper_of key upper v.now) }
 {
-    Region {
+    let below = Region {
         low: v.low,
         high: key,
-        rows,
-    }
-}
-
-// And the part from the key on.
-fn upper_part<K: Copy>(key: K, rows: u64, v: &Node<K>) -> Region<K>
-    ensures { result ≡ upper_of key rows v.now }
-{
-    Region {
+        rows: lower,
+    };
+    let above = Region {
         low: key,
         high: v.high,
-        rows,
-    }
+        rows: upper,
+    };
+    (below, above)
 }
 
 // Turns the region that holds the key into its two parts there; answers how many nodes are pending.
 pub fn split_region<S: Store>(
     store: &mut S,
-    root: &mut u16,
-    path: &mut Path,
-    cursor: &mut u16,
+    tree: &mut Tree,
     draft: &mut Draft<S::Key>,
     key: S::Key,
     lower: u64,
     upper: u64,
     sessions: u32,
 ) -> Result<usize, Refusal>
-    ensures edits { EditsInside (S.Store.cells store.old) (S.Store.cells store.new) (held path.old) (held path.new) root.old root.new result (split_told (less_by S.Key.Ordered.fault S.Key.Ordered.order) (same_by S.Key.Ordered.fault S.Key.Ordered.order) (S.Store.cells store.old) (held path.old) root.old sessions key lower upper) }
+    ensures edits { EditsInside (S.Store.cells store.old) (S.Store.cells store.new) tree.old.path tree.new.path tree.old.root tree.new.root result (split_told (less_by S.Key.Ordered.fault S.Key.Ordered.order) (same_by S.Key.Ordered.fault S.Key.Ordered.order) (S.Store.cells store.old) tree.old.path tree.old.root sessions key lower upper) }
     ensures keeps { S.Store.fit store.old → S.Store.fit store.new }
 {
-    wipe(draft);
-    let mut way = Path::new();
-    let p = hold(store, path, *root, &key, &mut way)?;
+    draft.clear();
+    let (way, p) = hold(store, tree, &key)?;
     past_low(&p.node.low, &key)?;
-    has_room(store, *root)?;
-    let mut found = free_nodes(store, *cursor, 96)?;
-    let below = lower_part(key, lower, &p.node);
-    let above = upper_part(key, upper, &p.node);
-    let side = put_to(Doing::Copy, part(store, draft, &p, below, above))?;
-    *cursor = found.end(*cursor);
-    let top = link_to(&side);
+    has_room(store, tree.root)?;
+    let mut found = free_nodes(store, tree, MOST_NEW)?;
+    let (below, above) = cut(&p.node, key, lower, upper);
+    let side = part(store, draft, &p, below, above).during(Doing::Copy)?;
     let sought = Sought::Holder(key);
     finish(
-        store, root, path, &way, &sought, draft, top, &mut found, sessions,
+        store,
+        tree,
+        draft,
+        way,
+        &sought,
+        side.link(),
+        &mut found,
+        sessions,
     )
 }

@@ -1,23 +1,11 @@
 -- The search for free nodes.
-use Rattle.std.proofs.Common.{◌≡◌, ℕ, zero, suc, ◌+◌, ◌-◌, ◌<◌, ◌≤◌, min, Bool, true, false, cond, eqb, ◌≢◌, ◌⊎◌, List, [], ◌∷◌, ◌++◌, length, get_or, take, drop, Ok, Err, Result, sym, refl, ap, ◌∙◌, subst, inl, inr, append_assoc, append-nil, add-zero, add_assoc, add-suc, add-one, arith, length-append, length-drop, length-take, drop-cons, get_or-take}
-use Rattle.search.specs.Firsts.{first, later}
+use Rattle.std.proofs.Common.{◌≡◌, ℕ, zero, suc, ◌+◌, ◌-◌, ◌<◌, ◌≤◌, min, Bool, true, false, cond, eqb, ◌≢◌, ◌⊎◌, List, [], ◌∷◌, ◌++◌, length, Ok, Err, Result, sym, refl, ap, ◌∙◌, subst, inl, inr, append_assoc, append-nil, add-zero, add_assoc, add-suc, arith, length-append}
 use Rattle.std.proofs.lemmas.Bool.{eqb-true, ne_eqb, le-ltb, cases_lt}
 use Rattle.store.specs.declared.fault.StoreFault.{StoreFault}
 use Rattle.store.specs.Cells.{Cell, mark_answer, mark_of, cell_at}
 use Rattle.store.specs.Faults.{outside}
 use Rattle.store.proofs.Insides.{mark_inside}
 use Rattle.search.specs.Frees.{Apart, if_free, frees, pool_end, free_count, Chosen, Gathers, Finds}
-
--- the next of the numbers that are left
-pub some_left : (ns : List ℕ) (count used : ℕ) → 0 < length (drop used (take count ns)) → used < count
-some_left ns count used h = omega (arith, length-drop used (take count ns), length-take count ns)
-
-pub next_left : (ns : List ℕ) (count used : ℕ) → 0 < length (drop used (take count ns)) →
-    (get_or ns used 0 ≡ first (drop used (take count ns))) × (drop (used + 1) (take count ns) ≡ later (drop used (take count ns)))
-next_left ns count used h =
-    let l : used < length (take count ns) = omega (arith, length-drop used (take count ns)) in
-    let e = drop-cons (take count ns) used 0 l in
-    (sym (ap first e ∙ get_or-take count ns used 0 (some_left ns count used h)), ap (λ n. drop n (take count ns)) (add-one used) ∙ sym (ap later e))
 
 -- every number of a list lies between two bounds, the upper one left out
 abbrev Within : ℕ → ℕ → List ℕ → Type 0

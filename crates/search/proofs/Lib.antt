@@ -1,3 +1,2 @@
-pub mod Pathing
 pub mod Searching
 pub mod Gathering

@@ -1,42 +1,14 @@
 -- The way down, one node after another.
-use Rattle.std.proofs.Common.{◌≡◌, ℕ, zero, suc, ◌-◌, Bool, true, false, List, [], ◌∷◌, ◌++◌, Some, None, Ok, Err, Option, Result, sym, refl, ap, ◌∙◌, subst, append_assoc, append-nil, sub-one}
+use Rattle.std.proofs.Common.{◌≡◌, ℕ, zero, suc, ◌-◌, Bool, List, [], ◌∷◌, ◌++◌, Some, None, Ok, Err, Option, Result, sym, refl, ap, ◌∙◌, subst, append_assoc, append-nil, sub-one}
 use Rattle.store.specs.Nodes.{link_number}
 use Rattle.store.specs.declared.node.Node.{Node}
 use Rattle.store.specs.declared.fault.StoreFault.{StoreFault}
 use Rattle.store.specs.Cells.{Cell, read_answer}
 use Rattle.drafts.specs.declared.link.Lean.{Lean}
-use Rattle.drafts.specs.declared.link.Lean.TheVariants.{Left, Right}
-use Rattle.search.specs.declared.search.Sought.TheVariants.{Holder, Overlap}
 use Rattle.drafts.specs.Grown.{bind}
 use Rattle.drafts.proofs.Turning.{bind_at, bind_stop}
 use Rattle.search.specs.declared.search.Sought.{Sought}
 use Rattle.search.specs.Searches.{Way, nowhere, side_for, link_at, at_node, at_link, descended, Reaches}
-
-module _ {K : Type 0} (less : K → K → Bool) (x : Sought K) (v : Node K) where
-  -- the side on which a search goes on
-  pub holder_left : (k : K) → x ≡ Holder k → less k v.low ≡ true → Some Left ≡ side_for less x v
-  unfolding side_for
-  holder_left k e p = rw (e, p)
-
-  pub holder_here : (k : K) → x ≡ Holder k → less k v.low ≡ false → less k v.high ≡ true → None ≡ side_for less x v
-  unfolding side_for
-  holder_here k e p q = rw (e, p, q)
-
-  pub holder_right : (k : K) → x ≡ Holder k → less k v.low ≡ false → less k v.high ≡ false → Some Right ≡ side_for less x v
-  unfolding side_for
-  holder_right k e p q = rw (e, p, q)
-
-  pub overlap_left : (a b : K) → x ≡ Overlap a b → less v.low b ≡ false → Some Left ≡ side_for less x v
-  unfolding side_for
-  overlap_left a b e p = rw (e, p)
-
-  pub overlap_here : (a b : K) → x ≡ Overlap a b → less v.low b ≡ true → less a v.high ≡ true → None ≡ side_for less x v
-  unfolding side_for
-  overlap_here a b e p q = rw (e, p, q)
-
-  pub overlap_right : (a b : K) → x ≡ Overlap a b → less v.low b ≡ true → less a v.high ≡ false → Some Right ≡ side_for less x v
-  unfolding side_for
-  overlap_right a b e p q = rw (e, p, q)
 
 module _ {K : Type 0} (less : K → K → Bool) (x : Sought K) (cs : List (Cell K)) where
   -- one node further, while there is room

@@ -1,5 +1,5 @@
 -- The free nodes of the pool: the nodes past the 32 seats, up to N, that have mark 0.
-use Rattle.std.specs.Prelude.{◌≡◌, ℕ, zero, suc, ◌+◌, ◌-◌, ◌<◌, ◌≤◌, min, cond, List, [], ◌∷◌, ◌++◌, length, take, drop, Ok, Err, Result, ◌==◌, ◌≢◌}
+use Rattle.std.specs.Prelude.{◌≡◌, ℕ, zero, suc, ◌+◌, ◌-◌, ◌<◌, ◌≤◌, min, cond, List, [], ◌∷◌, ◌++◌, length, drop, Ok, Err, Result, ◌==◌, ◌≢◌}
 use Rattle.store.specs.declared.fault.StoreFault.{StoreFault}
 use Rattle.store.specs.Cells.{Cell, mark_answer}
 use Rattle.search.specs.declared.free.Found.{Found}
@@ -39,10 +39,10 @@ module _ {K : Type 0} where
 
 -- the numbers found that were not used yet
 abbrev pub left_of : Found → List ℕ
-left_of f = drop f.used (take f.count f.numbers)
+left_of f = drop f.used f.numbers
 
 abbrev pub found_of : Found → List ℕ
-found_of f = take f.count f.numbers
+found_of f = f.numbers
 
 module _ {K : Type 0} where
   -- a stretch of the search: the free ones of the next `many` nodes came to the others, and it went on until all were seen or there were enough

@@ -1,10 +1,6 @@
--- The nodes that a path holds, from the root down.
+-- A path: the nodes on the way down, from the root.
 use Rattle.std.specs.Prelude.{ℕ, ◌-◌, List, length, take, Option}
 use Rattle.std.specs.List.{slice_get}
-use Rattle.search.specs.declared.path.Path.{Path}
-
-abbrev pub held : Path → List ℕ
-held p = take p.count p.nodes
 
 -- the last node of a path
 unfoldable pub lowest : List ℕ → Option ℕ

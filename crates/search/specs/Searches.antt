@@ -1,29 +1,25 @@
 -- The search in the tree, as a function of the memory.
-use Rattle.std.specs.Prelude.{◌≡◌, ℕ, zero, suc, Bool, true, false, cond, List, [], ◌∷◌, ◌++◌, Some, None, Ok, Err, Option, Result}
+use Rattle.std.specs.Prelude.{◌≡◌, ℕ, zero, suc, Bool, false, cond, List, [], ◌∷◌, ◌++◌, Some, None, Ok, Err, Option, Result}
 use Rattle.store.specs.Nodes.{link_number}
-use Rattle.keys.specs.declared.order.Order.{Order}
-use Rattle.keys.specs.declared.order.Order.TheVariants.{Below, Same, Above}
+use Rattle.std.specs.declared.cmp.Ordering.{Ordering}
+use Rattle.std.specs.Ordering.{is_lt}
 use Rattle.keys.specs.Orders.{compared}
 use Rattle.store.specs.declared.node.Node.{Node}
 use Rattle.store.specs.declared.fault.StoreFault.{StoreFault}
 use Rattle.store.specs.Cells.{Cell, read_answer}
 use Rattle.drafts.specs.declared.link.Lean.{Lean}
 use Rattle.drafts.specs.declared.link.Lean.TheVariants.{Right, Left}
+use Rattle.drafts.specs.Drafts.{on_side}
 use Rattle.drafts.specs.Grown.{bind}
 use Rattle.search.specs.declared.search.Sought.{Sought}
 use Rattle.search.specs.declared.search.Sought.TheVariants.{Holder, Overlap}
 
-abbrev pub is_below : Order → Bool
-is_below Below = true
-is_below Same = false
-is_below Above = false
-
-abbrev pub tells_below : {F : Type 0} → Result Order F → Bool
-tells_below (Ok o) = is_below o
+abbrev pub tells_below : {F : Type 0} → Result Ordering F → Bool
+tells_below (Ok o) = is_lt o
 tells_below (Err f) = false
 
 -- whether a key is below another: an ill-formed key is below none, and none is below it
-unfoldable pub less_by : {K F : Type 0} → (K → Option F) → (K → K → Order) → K → K → Bool
+unfoldable pub less_by : {K F : Type 0} → (K → Option F) → (K → K → Ordering) → K → K → Bool
 less_by fault order a b = tells_below (compared (fault a) (fault b) (order a b))
 
 -- the way that a search takes: the nodes that it passes, and the node at which it ends, if any
@@ -42,8 +38,7 @@ module _ {K : Type 0} where
   side_for less (Overlap a b) v = cond (less v.low b) (cond (less a v.high) None (Some Right)) (Some Left)
 
   abbrev pub link_at : Lean → Node K → ℕ
-  link_at Left v = v.left
-  link_at Right v = v.right
+  link_at s v = on_side s v.left v.right
 
   abbrev pub at_node : (ℕ → Result Way StoreFault) → ℕ → Node K → Option Lean → Result Way StoreFault
   at_node on n v None = Ok (record { passed = []; end = Some n })

@@ -4,8 +4,7 @@
 mod free;
 mod path;
 mod search;
-mod stack;
 
 pub use free::{Found, find_free};
-pub use path::Path;
+pub use path::{DEEPEST, Path};
 pub use search::{Sought, descend, side_at};

@@ -1,9 +1,7 @@
-// The path of an edit: the nodes on the way down, at most 27, as an array by value.
-ghost use Rattle.std.specs.Prelude.{◌≤◌};
+// The path of an edit: the nodes on the way down, the lowest on top.
+use stacks::Stack;
 
-#[derive(Clone, Copy)]
-pub struct Path {
-    pub(crate) nodes: [u16; 27],
-    pub(crate) count: usize,
-    ghost ok: { count ≤ 27 },
-}
+// No tree at rest is deeper.
+pub const DEEPEST: usize = 27;
+
+pub type Path = Stack<u16, DEEPEST>;

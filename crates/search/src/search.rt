@@ -1,11 +1,11 @@
 // The search in the tree: the way down for a key or for a range.
 ghost use Rattle.std.specs.Prelude.{◌≡◌, ◌-◌, length};
-ghost use Rattle.search.specs.Paths.{held};
-ghost use Rattle.search.specs.Searches.{is_below, less_by, side_for, link_at, descended, Reaches};
+ghost use Rattle.search.specs.Searches.{less_by, side_for, descended, Reaches};
 
-use crate::path::Path;
+use crate::path::{DEEPEST, Path};
 use drafts::Lean;
-use keys::{Key, Order, Ordered};
+use keys::{Key, Ordered};
+use std::cmp::Ordering;
 use store::{Node, Store, StoreFault, linked};
 
 // What is sought: the region that holds a key, or one that overlaps the range [low, high).
@@ -15,27 +15,17 @@ pub enum Sought<K> {
     Overlap(K, K),
 }
 
-fn tells_below(order: Order) -> bool
-    ensures { result ≡ is_below order }
-{
-    match order {
-        Order::Below => true,
-        Order::Same => false,
-        Order::Above => false,
-    }
-}
-
 // Whether a key is below another; an ill-formed key is below none, and none is below it.
+#[tactic(auto, unfolding(crate::specs::Searches::less_by))]
 fn less<K: Ordered>(a: &K, b: &K) -> bool
     ensures { result ≡ less_by K.Ordered.fault K.Ordered.order a.now b.now }
 {
-    match a.compare(b) {
-        Ok(order) => tells_below(order),
-        Err(_) => false,
-    }
+    matches!(a.compare(b), Ok(Ordering::Less))
 }
 
-// On which side of a node the search goes on; none where it ends at the node.
+// On which side of a node the search goes on; none where it ends at the node. For the holder of a key it is the way of a lookup
+// (`sessions::way_at`), in the words of a path; to call that and turn its answer into these words would be no shorter.
+#[tactic(auto, unfolding(crate::specs::Searches::side_for))]
 pub fn side_at<K: Key>(sought: &Sought<K>, v: &Node<K>) -> Option<Lean>
     ensures { result ≡ side_for (less_by K.Ordered.fault K.Ordered.order) sought.now v.now }
 {
@@ -61,16 +51,6 @@ pub fn side_at<K: Key>(sought: &Sought<K>, v: &Node<K>) -> Option<Lean>
     }
 }
 
-// The link of a node on one side.
-fn link_on<K: Copy>(side: Lean, v: &Node<K>) -> u16
-    ensures { result ≡ link_at side v.now }
-{
-    match side {
-        Lean::Left => v.left,
-        Lean::Right => v.right,
-    }
-}
-
 // The way down from a link: the nodes that it passes go on the path, and it ends at a node or, where nothing is found, at none.
 // A path has room for 27 nodes; the way ends there in any case, though no tree at rest is so deep.
 pub fn descend<S: Store>(
@@ -79,12 +59,12 @@ pub fn descend<S: Store>(
     link: u16,
     path: &mut Path,
 ) -> Result<Option<u16>, StoreFault>
-    ensures { Reaches (held path.old) (held path.new) result (descended (less_by S.Key.Ordered.fault S.Key.Ordered.order) sought.now (S.Store.cells store.now) (27 - length (held path.old)) link) }
+    ensures { Reaches path.old path.new result (descended (less_by S.Key.Ordered.fault S.Key.Ordered.order) sought.now (S.Store.cells store.now) (27 - length path.old) link) }
 {
     let Some(n) = linked(link) else {
         return Ok(None);
     };
-    if path.len() == 27 {
+    if path.len() == DEEPEST {
         return Ok(None);
     }
     let v = store.read(n as usize)?;
@@ -92,5 +72,5 @@ pub fn descend<S: Store>(
         return Ok(Some(n));
     };
     path.push(n);
-    descend(store, sought, link_on(side, &v), path)
+    descend(store, sought, side.pick(v.left, v.right), path)
 }

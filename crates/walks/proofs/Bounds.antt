@@ -10,8 +10,6 @@ use Rattle.drafts.specs.declared.link.Numbered.{Numbered}
 use Rattle.drafts.specs.Grown.{Grown, kept, Seen, stored, Built, bind, tree, seen, joined, without, balanced}
 use Rattle.commits.specs.Commits.{news, GoneInside}
 use Rattle.commits.proofs.Bounds.{bind_inv, read_from, seen_fair, without_inside, Bound, balanced_bound}
-use Rattle.walks.specs.declared.walk.Edge.{Edge}
-use Rattle.walks.specs.declared.walk.Edge.TheVariants.{Cut, Grow}
 use Rattle.walks.specs.Walks.{Graft, Walked, numbered, sprout, walked_as, edge_end, edge_over, edge_at, walked, merged, grown_by, parted}
 use Rattle.walks.specs.Outcomes.{topped}
 
@@ -50,10 +48,10 @@ module _ {K : Type 0} where
       let j = bind_inv (seen cs c) _ b i.2 in
       over_bound cs gone x a c i.0 j.0 b i.1 j.1 j.2 p
 
-  end_bound : (cs : List (Cell K)) (gone : List (Numbered K)) (edge : Edge K) (v : Node K) (g : Graft K) → Ok g ≡ edge_end cs gone edge v → GoneInside (length cs) gone → GraftBound (length cs) 4 g
+  end_bound : (cs : List (Cell K)) (gone : List (Numbered K)) (edge : Option (Region K)) (v : Node K) (g : Graft K) → Ok g ≡ edge_end cs gone edge v → GoneInside (length cs) gone → GraftBound (length cs) 4 g
   unfolding edge_end news seen tree joined
-  end_bound cs gone Cut v g e p = graft_as (length cs) 4 g _ e (record { gone = p; few = omega arith })
-  end_bound cs gone (Grow z) v g e p =
+  end_bound cs gone None v g e p = graft_as (length cs) 4 g _ e (record { gone = p; few = omega arith })
+  end_bound cs gone (Some z) v g e p =
       let i = bind_inv (seen cs (kept v.right)) _ g e in
       let j = bind_inv _ _ g i.2 in
       let k = over_bound cs gone (region_of v) (tree (sprout z)) (kept v.right) (sprout z) i.0 j.0 refl i.1 j.1 p in
@@ -68,7 +66,7 @@ module _ {K : Type 0} where
       let k = over_bound cs w.gone (region_of v) w.side (kept v.right) i.0 j.0 l.0 i.1 j.1 l.1 f.gone in
       walked_is (length cs) (m + 3) u _ l.2 (record { gone = k.gone; few = omega (arith, k.few, f.few) })
 
-  last_bound : (cs : List (Cell K)) (gone : List (Numbered K)) (edge : Edge K) (n : ℕ) (v : Node K) (w : Walked K) → Ok w ≡ bind (edge_end cs gone edge v) (λ g. Ok (walked_as n g)) →
+  last_bound : (cs : List (Cell K)) (gone : List (Numbered K)) (edge : Option (Region K)) (n : ℕ) (v : Node K) (w : Walked K) → Ok w ≡ bind (edge_end cs gone edge v) (λ g. Ok (walked_as n g)) →
       GoneInside (length cs) gone → GraftBound (length cs) 4 (graft_in w)
   last_bound cs gone edge n v w e p =
       let i = bind_inv _ _ w e in
@@ -77,7 +75,7 @@ module _ {K : Type 0} where
   wide : (N m m' : ℕ) (g : Graft K) → m ≤ m' → GraftBound N m g → GraftBound N m' g
   wide N m m' g h f = record { gone = f.gone; few = omega (arith, f.few) }
 
-  edge_at_bound : (on : List (Numbered K) → ℕ → Result (Walked K) StoreFault) (cs : List (Cell K)) (gone : List (Numbered K)) (edge : Edge K) (n : ℕ) (v : Node K) (o : Option ℕ) (w : Walked K) (m : ℕ) →
+  edge_at_bound : (on : List (Numbered K) → ℕ → Result (Walked K) StoreFault) (cs : List (Cell K)) (gone : List (Numbered K)) (edge : Option (Region K)) (n : ℕ) (v : Node K) (o : Option ℕ) (w : Walked K) (m : ℕ) →
       Ok w ≡ edge_at on cs gone edge n v o → GoneInside (length cs) gone → 1 ≤ m → ((n : ℕ) (u : Walked K) → Ok u ≡ on gone n → GraftBound (length cs) m (graft_in u)) → GraftBound (length cs) (m + 3) (graft_in w)
   edge_at_bound on cs gone edge n v None w m e p h rec = wide (length cs) 4 (m + 3) (graft_in w) (omega arith) (last_bound cs gone edge n v w e p)
   edge_at_bound on cs gone edge n v (Some l) w m e p h rec =
@@ -85,7 +83,7 @@ module _ {K : Type 0} where
       edge_over_bound cs v i.0 w m i.2 (rec l i.0 i.1)
 
   -- the walk through at most k more nodes
-  walked_bound : (k : ℕ) (cs : List (Cell K)) (edge : Edge K) (gone : List (Numbered K)) (n : ℕ) (w : Walked K) → Ok w ≡ walked k cs edge gone n → GoneInside (length cs) gone →
+  walked_bound : (k : ℕ) (cs : List (Cell K)) (edge : Option (Region K)) (gone : List (Numbered K)) (n : ℕ) (w : Walked K) → Ok w ≡ walked k cs edge gone n → GoneInside (length cs) gone →
       GraftBound (length cs) (3 * k + 4) (graft_in w)
   unfolding walked
   walked_bound zero cs edge gone n w e p =
@@ -101,9 +99,9 @@ module _ {K : Type 0} where
   pub merged_bound : (cs : List (Cell K)) (p : Numbered K) (b : Built K) → Ok b ≡ merged cs p → outside p.number (length cs) ≡ false → Bound (length cs) 96 b
   unfolding merged news
   merged_bound cs p b e h =
-      let i = bind_inv (walked 26 cs Cut (p ∷ []) p.node.right) _ b e in
+      let i = bind_inv (walked 26 cs None (p ∷ []) p.node.right) _ b e in
       let j = bind_inv (read_answer cs i.0.least) _ b i.2 in
-      let f = walked_bound 26 cs Cut (p ∷ []) p.node.right i.0 i.1 (h, tt) in
+      let f = walked_bound 26 cs None (p ∷ []) p.node.right i.0 i.1 (h, tt) in
       let k = topped_bound cs i.0.gone (region_of j.0) (kept p.node.left) i.0.side b j.2 f.gone in
       record { gone = k.gone; few = omega (arith, k.few, f.few) }
 
@@ -112,7 +110,7 @@ module _ {K : Type 0} where
   grown_bound cs gone z None g e p = graft_as (length cs) 82 g _ e (record { gone = p; few = omega arith })
   grown_bound cs gone z (Some n) g e p =
       let i = bind_inv _ _ g e in
-      graft_as (length cs) 82 g _ i.2 (walked_bound 26 cs (Grow z) gone n i.0 i.1 p)
+      graft_as (length cs) 82 g _ i.2 (walked_bound 26 cs (Some z) gone n i.0 i.1 p)
 
   -- split
   pub parted_bound : (cs : List (Cell K)) (p : Numbered K) (lower upper : Region K) (b : Built K) → Ok b ≡ parted cs p lower upper → outside p.number (length cs) ≡ false → Bound (length cs) 96 b

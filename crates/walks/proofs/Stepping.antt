@@ -1,5 +1,5 @@
 -- One step after another: how what the draft came to follows what the definitions say.
-use Rattle.std.proofs.Common.{◌≡◌, ℕ, ◌+◌, ◌≤◌, Ok, Err, Result, sym, refl, ap, ◌∙◌, subst, arith}
+use Rattle.std.proofs.Common.{◌≡◌, ℕ, ◌+◌, ◌≤◌, Ok, Err, Result, sym, refl, ap, ◌∙◌, subst}
 use Rattle.store.specs.declared.fault.StoreFault.{StoreFault}
 use Rattle.drafts.specs.declared.link.Link.{Link}
 use Rattle.drafts.specs.declared.link.Side.{Side}
@@ -60,10 +60,6 @@ module _ {K A B A' B' : Type 0} {fair : Draft K → A → Type 0} {means : Draft
   comes_stop k p a b = record { grew = p.grew; good = rw a tt; is = rw (a, b) (bind_stop _ _ k p.is) }
 
 module _ {K : Type 0} where
-  -- only a node left
-  pub grew_left : (d d₀ : Draft K) → d₀.out ≡ d.out + 1 → d₀.made ≡ d.made → d₀.count ≡ d.count → Grew 0 1 d d₀
-  grew_left d d₀ h i j = record { few = omega arith; few_out = omega arith; stays = λ k p. rw (i, j) p; same = λ k p. rw (i, j) }
-
   -- the link to a side that was made
   pub comes_linked : (d : Draft K) (s : Side K) (l : Link) → l ≡ link_of s → Good d s → Grafts 0 0 d d (Ok l) (Ok (graft_of (built_in d s)))
   comes_linked d s l e f = comes_as (comes_ok d l (subst (λ x. Fine d x) (sym e) (good_fine d s f)))

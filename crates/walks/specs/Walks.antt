@@ -8,8 +8,6 @@ use Rattle.store.specs.Cells.{Cell, read_answer}
 use Rattle.store.specs.Nodes.{region_of, link_number}
 use Rattle.drafts.specs.declared.link.Numbered.{Numbered}
 use Rattle.drafts.specs.Grown.{Grown, kept, Seen, nothing, Built, bind, tree, seen, joined, balanced}
-use Rattle.walks.specs.declared.walk.Edge.{Edge}
-use Rattle.walks.specs.declared.walk.Edge.TheVariants.{Cut, Grow}
 
 -- a tree that was built, and the nodes of the memory that were taken apart for it
 pub record Graft (K : Type 0) : Type 0 where
@@ -37,9 +35,9 @@ module _ {K : Type 0} where
   walked_as n g = record { least = n; side = g.side; gone = g.gone }
 
   -- what stands in place of the lowest node v of the edge: its right side, or a copy of it over a new left side
-  unfoldable pub edge_end : List (Cell K) → List (Numbered K) → Edge K → Node K → Result (Graft K) StoreFault
-  edge_end cs gone Cut v = Ok (record { side = kept v.right; gone = gone })
-  edge_end cs gone (Grow z) v =
+  unfoldable pub edge_end : List (Cell K) → List (Numbered K) → Option (Region K) → Node K → Result (Graft K) StoreFault
+  edge_end cs gone None v = Ok (record { side = kept v.right; gone = gone })
+  edge_end cs gone (Some z) v =
       bind (seen cs (kept v.right)) (λ r. bind (balanced cs gone (region_of v) (sprout z) r) (λ b. Ok (graft_of b)))
 
   -- a copy of the node v over what was made of its left side, balanced
@@ -49,13 +47,13 @@ module _ {K : Type 0} where
       bind (seen cs (kept v.right)) (λ r.
       bind (balanced cs w.gone (region_of v) l r) (λ b. Ok (walked_as w.least (graft_of b)))))
 
-  abbrev pub edge_at : (List (Numbered K) → ℕ → Result (Walked K) StoreFault) → List (Cell K) → List (Numbered K) → Edge K → ℕ → Node K → Option ℕ → Result (Walked K) StoreFault
+  abbrev pub edge_at : (List (Numbered K) → ℕ → Result (Walked K) StoreFault) → List (Cell K) → List (Numbered K) → Option (Region K) → ℕ → Node K → Option ℕ → Result (Walked K) StoreFault
   edge_at on cs gone e n v None = bind (edge_end cs gone e v) (λ g. Ok (walked_as n g))
   edge_at on cs gone e n v (Some m) = bind (on gone m) (edge_over cs v)
 
   -- the walk from node n down its left edge, through at most k more nodes; past these a left link counts as empty.
   -- Each node of the edge leaves, the highest first.
-  unfoldable pub walked : ℕ → List (Cell K) → Edge K → List (Numbered K) → ℕ → Result (Walked K) StoreFault
+  unfoldable pub walked : ℕ → List (Cell K) → Option (Region K) → List (Numbered K) → ℕ → Result (Walked K) StoreFault
   walked zero cs e gone n =
       bind (read_answer cs n) (λ v. bind (edge_end cs (gone ++ (numbered n v ∷ [])) e v) (λ g. Ok (walked_as n g)))
   walked (suc k) cs e gone n =
@@ -64,7 +62,7 @@ module _ {K : Type 0} where
   -- drop with both sides: the region of the least node of the right side rises, over the left side and the right side without it
   unfoldable pub merged : List (Cell K) → Numbered K → Result (Built K) StoreFault
   merged cs p =
-      bind (walked 26 cs Cut (p ∷ []) p.node.right) (λ w.
+      bind (walked 26 cs None (p ∷ []) p.node.right) (λ w.
       bind (read_answer cs w.least) (λ v.
       bind (seen cs (kept p.node.left)) (λ l.
       bind (seen cs w.side) (λ r.
@@ -73,7 +71,7 @@ module _ {K : Type 0} where
   -- a side with a region added as its least
   abbrev pub grown_by : List (Cell K) → List (Numbered K) → Region K → Option ℕ → Result (Graft K) StoreFault
   grown_by cs gone z None = Ok (record { side = tree (sprout z); gone = gone })
-  grown_by cs gone z (Some n) = bind (walked 26 cs (Grow z) gone n) (λ w. Ok (record { side = w.side; gone = w.gone }))
+  grown_by cs gone z (Some n) = bind (walked 26 cs (Some z) gone n) (λ w. Ok (record { side = w.side; gone = w.gone }))
 
   -- split: the lower part over the left side and the right side with the upper part as its least
   unfoldable pub parted : List (Cell K) → Numbered K → Region K → Region K → Result (Built K) StoreFault

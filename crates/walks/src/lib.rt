@@ -3,4 +3,4 @@
 
 mod walk;
 
-pub use walk::{Edge, merge, part};
+pub use walk::{merge, part};

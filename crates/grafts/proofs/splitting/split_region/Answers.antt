@@ -1,22 +1,21 @@
-use Rattle.std.proofs.Common.{◌≤◌, length, arith, rules}
+use Rattle.std.proofs.Common.{◌≡◌, ◌≤◌, subst, length, arith, rules}
 use Rattle.std.proofs.lemmas.Result.{err_from_is_err_and}
-use Rattle.drafts.specs.Drafts.{tree_of}
-use Rattle.search.specs.Paths.{held}
+use Rattle.drafts.specs.Drafts.{tree_of, built_told}
 use Rattle.search.specs.Frees.{left_of}
 use Rattle.commits.specs.Commits.{news}
 use Rattle.commits.proofs.Bounds.{chosen_inside}
-use Rattle.grafts.specs.Grafts.{lower_of, upper_of}
+use Rattle.walks.specs.Walks.{parted}
 use Rattle.grafts.proofs.Keeping.{holds_err, holds_ok}
 use Rattle.grafts.proofs.Exits.{edits_refused, edits_end, split_unheld, split_low, split_full, split_crowded, split_stopped, split_done, held_inside}
-use Rattle.grafts.proofs.Replacing.{graft_at, parts_as, divided, divided_at, parted_stopped, divided_linkable}
+use Rattle.grafts.proofs.Replacing.{graft_at, divided, divided_at, parted_stopped, divided_linkable}
 use Rattle.grafts.proofs.splitting.split_region.Goals as goal
 
-pub returns-in_err-p : goal.returns-in_err-p
-returns-in_err-p g c =
+pub returns-in_err-way : goal.returns-in_err-way
+returns-in_err-way g c =
     let cs = g.S.Store.cells c.args.store.now in
     let p = err_from_is_err_and c.from_residual.result c.from_residual.ensures.1 in
     record {
-      edits = edits_refused cs (held c.args.path.now) c.args.root.now _ _ _ _ (split_unheld cs (held c.args.path.now) c.args.root.now _ _ c.args.sessions c.args.key c.args.lower c.args.upper _ (holds_err _ _ _ c.in_err-p.ensures)) p.1 p.2;
+      edits = edits_refused cs c.args.tree.now.path c.args.tree.now.root _ _ _ _ (split_unheld cs c.args.tree.now.path c.args.tree.now.root _ _ c.args.sessions c.args.key c.args.lower c.args.upper _ (holds_err _ _ c.in_err-way.ensures)) p.1 p.2;
       keeps = λ h. h;
     }
 
@@ -25,8 +24,8 @@ returns-in_err-past_low g c =
     let cs = g.S.Store.cells c.args.store.now in
     let p = err_from_is_err_and c.from_residual-in_err-past_low.result c.from_residual-in_err-past_low.ensures.1 in
     record {
-      edits = edits_refused cs (held c.args.path.now) c.args.root.now _ _ _ _
-          (split_low cs (held c.args.path.now) c.args.root.now _ _ c.args.sessions c.args.key c.args.lower c.args.upper _ (holds_ok _ _ _ c.in_ok-p.ensures) _ c.in_err-past_low.ensures) p.1 p.2;
+      edits = edits_refused cs c.args.tree.now.path c.args.tree.now.root _ _ _ _
+          (split_low cs c.args.tree.now.path c.args.tree.now.root _ _ c.args.sessions c.args.key c.args.lower c.args.upper _ (holds_ok _ _ _ c.in_ok-way.ensures) _ c.in_err-past_low.ensures) p.1 p.2;
       keeps = λ h. h;
     }
 
@@ -35,8 +34,8 @@ returns-in_err-has_room g c =
     let cs = g.S.Store.cells c.args.store.now in
     let p = err_from_is_err_and c.from_residual-in_err-has_room.result c.from_residual-in_err-has_room.ensures.1 in
     record {
-      edits = edits_refused cs (held c.args.path.now) c.args.root.now _ _ _ _
-          (split_full cs (held c.args.path.now) c.args.root.now _ _ c.args.sessions c.args.key c.args.lower c.args.upper _ (holds_ok _ _ _ c.in_ok-p.ensures) _ c.in_ok-past_low.ensures
+      edits = edits_refused cs c.args.tree.now.path c.args.tree.now.root _ _ _ _
+          (split_full cs c.args.tree.now.path c.args.tree.now.root _ _ c.args.sessions c.args.key c.args.lower c.args.upper _ (holds_ok _ _ _ c.in_ok-way.ensures) _ c.in_ok-past_low.ensures
           c.in_err-has_room.ensures) p.1 p.2;
       keeps = λ h. h;
     }
@@ -46,61 +45,48 @@ returns-in_err-found g c =
     let cs = g.S.Store.cells c.args.store.now in
     let p = err_from_is_err_and c.from_residual-in_err-found.result c.from_residual-in_err-found.ensures.1 in
     record {
-      edits = edits_refused cs (held c.args.path.now) c.args.root.now _ _ _ _
-          (split_crowded cs (held c.args.path.now) c.args.root.now _ _ c.args.sessions c.args.key c.args.lower c.args.upper _ (holds_ok _ _ _ c.in_ok-p.ensures) _ c.in_ok-past_low.ensures
+      edits = edits_refused cs c.args.tree.now.path c.args.tree.now.root _ _ _ _
+          (split_crowded cs c.args.tree.now.path c.args.tree.now.root _ _ c.args.sessions c.args.key c.args.lower c.args.upper _ (holds_ok _ _ _ c.in_ok-way.ensures) _ c.in_ok-past_low.ensures
           c.in_ok-has_room.ensures c.in_err-found.ensures) p.1 p.2;
       keeps = λ h. h;
     }
 
-pub part-requires : goal.part-requires
-part-requires g c =
-    let count = c.wipe.ensures.count in
-    let out = c.wipe.ensures.out in
-    search rules
-
 pub returns-in_err-side : goal.returns-in_err-side
 returns-in_err-side g c =
     let cs = g.S.Store.cells c.args.store.now in
-    let v = c.in_ok-p.p.node in
-    let told = parts_as cs c.in_ok-p.p _ _ _ (lower_of c.args.key c.args.lower v) (upper_of c.args.key c.args.upper v) c.part.ensures.value c.lower_part-below.ensures c.upper_part-above.ensures in
+    let told = subst (λ z. built_told c.part.new.draft c.part.result ≡ parted cs c.in_ok-way.p z.0 z.1) c.cut-below.ensures c.part.ensures.value in
     let p = err_from_is_err_and c.from_residual-in_err-side.result c.from_residual-in_err-side.ensures.1 in
     let f = c.in_ok-found.ensures in
     record {
-      edits = edits_refused cs (held c.args.path.now) c.args.root.now _ _ _ _
-          (split_stopped cs (held c.args.path.now) c.args.root.now _ _ c.args.sessions c.args.key c.args.lower c.args.upper _ (holds_ok _ _ _ c.in_ok-p.ensures) _ c.in_ok-past_low.ensures
-          c.in_ok-has_room.ensures f.asked (parted_stopped cs c.in_ok-p.p _ _ c.part.new.draft c.part.result _ told c.in_err-side.ensures)) p.1 p.2;
+      edits = edits_refused cs c.args.tree.now.path c.args.tree.now.root _ _ _ _
+          (split_stopped cs c.args.tree.now.path c.args.tree.now.root _ _ c.args.sessions c.args.key c.args.lower c.args.upper _ (holds_ok _ _ _ c.in_ok-way.ensures) _ c.in_ok-past_low.ensures
+          c.in_ok-has_room.ensures f.asked (parted_stopped cs c.in_ok-way.p _ _ c.part.new.draft c.part.result _ told c.in_err-side.ensures)) p.1 p.2;
       keeps = λ h. h;
     }
 
 pub finish-requires : goal.finish-requires
 finish-requires g c =
     let cs = g.S.Store.cells c.args.store.now in
-    let v = c.in_ok-p.p.node in
-    let told = parts_as cs c.in_ok-p.p _ _ _ (lower_of c.args.key c.args.lower v) (upper_of c.args.key c.args.upper v) c.part.ensures.value c.lower_part-below.ensures c.upper_part-above.ensures in
+    let told = subst (λ z. built_told c.part.new.draft c.part.result ≡ parted cs c.in_ok-way.p z.0 z.1) c.cut-below.ensures c.part.ensures.value in
     let f = c.in_ok-found.ensures in
-    let i = held_inside cs (held c.args.path.now) c.args.root.now _ c.args.key _ (holds_ok _ _ _ c.in_ok-p.ensures) in
-    let s = divided_linkable cs c.in_ok-p.p _ _ c.part.new.draft c.part.result c.in_ok-side.side told c.in_ok-side.ensures c.link_to-top.result c.link_to-top.ensures c.part.ensures.good i in
-    let count = c.part.ensures.few.0 in
-    let out = c.part.ensures.few.1 in
-    let few = f.few in
+    let i = held_inside cs c.args.tree.now.path c.args.tree.now.root _ c.args.key _ (holds_ok _ _ _ c.in_ok-way.ensures) in
+    let s = divided_linkable cs c.in_ok-way.p _ _ c.part.new.draft c.part.result c.in_ok-side.side told c.in_ok-side.ensures c.link.result c.link.ensures c.part.ensures.good i in
     let link = s.link in
-    let many : news (tree_of c.part.new.draft c.link_to-top.result) ≤ length (left_of c.in_ok-found.found) = omega (arith, s.few, f.many) in
+    let many : news (tree_of c.part.new.draft c.link.result) ≤ length (left_of c.in_ok-found.found) = omega (arith, s.few, f.many) in
     let inside = chosen_inside cs _ f.chosen in
     let gone = s.gone in
-    let raw = c.requires-raw in
     search rules
 
 pub returns : goal.returns
 returns g c =
     let cs = g.S.Store.cells c.args.store.now in
-    let v = c.in_ok-p.p.node in
-    let told = parts_as cs c.in_ok-p.p _ _ _ (lower_of c.args.key c.args.lower v) (upper_of c.args.key c.args.upper v) c.part.ensures.value c.lower_part-below.ensures c.upper_part-above.ensures in
+    let told = subst (λ z. built_told c.part.new.draft c.part.result ≡ parted cs c.in_ok-way.p z.0 z.1) c.cut-below.ensures c.part.ensures.value in
     let f = c.in_ok-found.ensures in
     record {
-      edits = edits_end cs (held c.args.path.now) c.args.root.now _ _ _ _ _ (left_of c.in_ok-found.found) _ f.chosen c.finish.ensures.inside
-          (split_done cs (held c.args.path.now) c.args.root.now _ _ c.args.sessions c.args.key c.args.lower c.args.upper _ (holds_ok _ _ _ c.in_ok-p.ensures) _ _ (graft_at c.part.new.draft c.link_to-top.result)
-          (divided_at cs c.in_ok-p.p _ _ c.part.new.draft c.part.result c.in_ok-side.side told c.in_ok-side.ensures c.link_to-top.result c.link_to-top.ensures c.part.ensures.good)
+      edits = edits_end cs c.args.tree.now.path c.args.tree.now.root _ _ _ _ _ (left_of c.in_ok-found.found) _ f.chosen c.finish.ensures.inside
+          (split_done cs c.args.tree.now.path c.args.tree.now.root _ _ c.args.sessions c.args.key c.args.lower c.args.upper _ (holds_ok _ _ _ c.in_ok-way.ensures) _ _ (graft_at c.part.new.draft c.link.result)
+          (divided_at cs c.in_ok-way.p _ _ c.part.new.draft c.part.result c.in_ok-side.side told c.in_ok-side.ensures c.link.result c.link.ensures c.part.ensures.good)
           c.in_ok-past_low.ensures c.in_ok-has_room.ensures f.asked
-          (divided cs c.in_ok-p.p _ _ c.part.new.draft c.part.result c.in_ok-side.side told c.in_ok-side.ensures)) c.finish.ensures.ends;
+          (divided cs c.in_ok-way.p _ _ c.part.new.draft c.part.result c.in_ok-side.side told c.in_ok-side.ensures)) c.finish.ensures.ends;
       keeps = c.finish.ensures.keeps;
     }

@@ -1,6 +1,5 @@
 use Rattle.std.proofs.Common.{◌-◌, length}
-use Rattle.search.specs.Paths.{held}
 use Rattle.search.proofs.search.+descend.Given as goal
 
 abbrev pub decreases-descend : goal.decreases-descend
-decreases-descend g l = 27 - length (held l.path.now)
+decreases-descend g l = 27 - length l.path.now
