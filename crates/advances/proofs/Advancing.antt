@@ -42,7 +42,7 @@ module _ {K : Type 0} (cs : List (Cell K)) where
 
   -- a rotation and its link
   told_turned :
-      (path : List ℕ) (w : Sized K) (s : Lean) (b : Built K) (j : Joint K) →
+      (path : List ℕ) (w : Sized K) (s : Lean) (b : Built K) (j : Option (Joint K)) →
       rotated cs (w.node ∷ []) s (region_of w.node.node) w.left w.right ≡ Ok b → joint_at cs path w.node.number ≡ Ok j →
       turned_at cs path w s ≡ Ok (record { built = b; joint = j })
   unfolding turned_at
@@ -79,7 +79,7 @@ module _ {K : Type 0} (cs : List (Cell K)) where
 
   -- the rule at a node that was sized
   by_rule :
-      (fs : List (Frame ℕ (Region K))) (n : ℕ) (v : Node K) (l r : Seen K) (tl tr : Tree Label (Region K)) (j : Joint K) → Shows cs l tl → Shows cs r tr →
+      (fs : List (Frame ℕ (Region K))) (n : ℕ) (v : Node K) (l r : Seen K) (tl tr : Tree Label (Region K)) (j : Option (Joint K)) → Shows cs l tl → Shows cs r tr →
       count tl + count tr < 65535 → sized cs n ≡ Ok (sized_of n v l r) → joint_at cs (reverse (labels fs)) n ≡ Ok j →
       ByRule cs (reverse (labels fs)) n tl (region_of v) tr (balance (stays n) tl (region_of v) tr) (sized_of n v l r) j
       (λ root sessions ns. advanced cs (reverse (n ∷ labels fs)) root sessions ns) (heavy_side (weight l) (weight r))

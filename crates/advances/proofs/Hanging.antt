@@ -1,5 +1,5 @@
 -- Where a node of the tree hangs.
-use Rattle.std.proofs.Common.{◌≡◌, ℕ, suc, ◌+◌, ◌≤◌, false, eqb, List, [], ◌∷◌, reverse, Ok, sym, refl, ap, ◌∙◌, subst, arith}
+use Rattle.std.proofs.Common.{◌≡◌, ℕ, suc, ◌+◌, ◌≤◌, false, eqb, List, [], ◌∷◌, reverse, Some, None, Ok, sym, refl, ap, ◌∙◌, subst, arith}
 use Rattle.std.proofs.lemmas.Bool.{eq-eqb}
 use Rattle.store.specs.declared.node.Node.{Node}
 use Rattle.store.specs.declared.node.Region.{Region}
@@ -8,7 +8,6 @@ use Rattle.trees.specs.Trees.{Side, left, right, Tree, leaf, node, beside, count
 use Rattle.trees.specs.Paths.{inside, In, Distinct}
 use Rattle.trees.specs.Edits.{Frame, frame, labels, plug}
 use Rattle.search.specs.Searches.{link_at}
-use Rattle.commits.specs.declared.writes.Joint.TheVariants.{Root, Under}
 use Rattle.edits.specs.Calls.{side_of, joint_by, joint_at}
 use Rattle.runs.specs.States.{NodeInTree, Spells}
 use Rattle.lifting.specs.Ways.{lean_of}
@@ -70,7 +69,7 @@ module _ {K : Type 0} (cs : List (Cell K)) (pending : List ℕ) where
 
   joined_under :
       (s : Side) (m : ℕ) (y : Region K) (u : Tree ℕ (Region K)) (fs : List (Frame ℕ (Region K))) (n : ℕ) (v : Node K) → read_answer cs m ≡ Ok v →
-      side_of n v ≡ lean_of s → joint_at cs (reverse (labels (frame s m y u ∷ fs))) n ≡ Ok (Under (record { number = m; node = v }) (lean_of s))
+      side_of n v ≡ lean_of s → joint_at cs (reverse (labels (frame s m y u ∷ fs))) n ≡ Ok (Some (record { above = record { number = m; node = v }; side = lean_of s }))
   unfolding joint_at
   joined_under s m y u fs n v f e = ap (joint_by cs n) (lowest_of m (labels fs)) ∙ rw (f, e)
 
@@ -78,13 +77,13 @@ module _ {K : Type 0} (cs : List (Cell K)) (pending : List ℕ) where
       (root : ℕ) (fs : List (Frame ℕ (Region K))) (n : ℕ) (l : Tree ℕ (Region K)) (x : Region K) (r : Tree ℕ (Region K)) →
       Spells cs pending root (plug fs (node n l x r)) → Distinct (plug fs (node n l x r)) → Joined cs fs n
   unfolding joint_at
-  joint_found root [] n l x r h d = record { joint = Root; is = ap (joint_by cs n) lowest_none; hangs = refl }
+  joint_found root [] n l x r h d = record { joint = None; is = ap (joint_by cs n) lowest_none; hangs = refl }
   joint_found root (frame s m y u ∷ fs) n l x r h d =
       let f = lowest_forks root s m y u fs (node n l x r) h in
       let t : Tree ℕ (Region K) = node n l x r in
       let e = side_told s m y n l x r u f (omega (arith, d n, path_inside (eqb n) fs (beside s m t y u), inside_beside (eqb n) s m t y u)) in
       record {
-        joint = Under (record { number = m; node = f.content }) (lean_of s);
+        joint = Some (record { above = record { number = m; node = f.content }; side = lean_of s });
         is = joined_under s m y u fs n f.content (node_reads cs m _ _ f.content f.stands) e;
         hangs = (f.content, f.stands.can_be_read, refl);
       }

@@ -12,7 +12,6 @@ use Rattle.drafts.specs.declared.link.Lean.{Lean}
 use Rattle.drafts.specs.Grown.{weight, heavy_side, rotated}
 use Rattle.search.specs.Frees.{free_count}
 use Rattle.commits.specs.declared.writes.Joint.{Joint}
-use Rattle.commits.specs.declared.writes.Joint.TheVariants.{Root, Under}
 use Rattle.edits.specs.declared.fault.Refusal.{Refusal}
 use Rattle.edits.specs.declared.fault.Refusal.TheVariants.{Crowded}
 use Rattle.edits.specs.Calls.{Sized, Change, resized, sized, joint_at, turned_change, advanced}
@@ -22,12 +21,12 @@ use Rattle.lifting.specs.Ways.{lean_of}
 
 module _ {K : Type 0} where
   -- the link at the end of a path: the root link, or that of the lowest node on the side on which the path goes on
-  abbrev pub Hangs : List (Cell K) → List (Frame ℕ (Region K)) → Joint K → Type 0
-  Hangs cs [] j = j ≡ Root
-  Hangs cs (frame s m y u ∷ fs) j = (v : Node K) × (cell_at cs m ≡ readable v) × (j ≡ Under (record { number = m; node = v }) (lean_of s))
+  abbrev pub Hangs : List (Cell K) → List (Frame ℕ (Region K)) → Option (Joint K) → Type 0
+  Hangs cs [] j = j ≡ None
+  Hangs cs (frame s m y u ∷ fs) j = (v : Node K) × (cell_at cs m ≡ readable v) × (j ≡ Some (record { above = record { number = m; node = v }; side = lean_of s }))
 
   pub record Joined (cs : List (Cell K)) (fs : List (Frame ℕ (Region K))) (n : ℕ) : Type 0 where
-    pub joint : Joint K
+    pub joint : Option (Joint K)
     pub is : joint_at cs (reverse (labels fs)) n ≡ Ok joint
     pub hangs : Hangs cs fs joint
 
@@ -45,7 +44,7 @@ Told K = ℕ → ℕ → List ℕ → Result (Change K) Refusal
 
 module _ {K : Type 0} where
   -- By the rule of balance the node comes to the tree `made`: it is written with its size, or it is rotated; a rotation needs three free nodes.
-  abbrev pub ByRule : List (Cell K) → List ℕ → ℕ → (tl : Tree Label (Region K)) → Region K → (tr made : Tree Label (Region K)) → Sized K → Joint K → Told K → Option Lean → Type 0
+  abbrev pub ByRule : List (Cell K) → List ℕ → ℕ → (tl : Tree Label (Region K)) → Region K → (tr made : Tree Label (Region K)) → Sized K → Option (Joint K) → Told K → Option Lean → Type 0
   ByRule cs path n tl x tr made w j told None =
       (made ≡ node (stays n) tl x tr) ×
       ((root sessions : ℕ) (ns : List ℕ) → told root sessions ns ≡ Ok (record { path = path; root = root; writes = w.node ∷ [] }))

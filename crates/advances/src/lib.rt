@@ -5,15 +5,11 @@
 ghost use Rattle.advances.specs.Advances.{JointFound, AdvanceLifts};
 
 // The link to a node is found from the nodes above it.
-pub fn joint_is_found<K>() -> u8
+pub fn joint_is_found<K>()
     ensures { JointFound K }
-{
-    0
-}
+{}
 
 // Advance sizes the lowest pending node or rotates it, as the tree function says.
-pub fn advance_lifts<K>() -> u8
+pub fn advance_lifts<K>()
     ensures { AdvanceLifts K 65535 }
-{
-    0
-}
+{}

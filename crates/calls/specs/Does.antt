@@ -22,16 +22,15 @@ use Rattle.sessions.specs.Ways.{way_of}
 use Rattle.sessions.specs.Lookups.{session_done, Does as SessionDoes}
 use Rattle.sessions.specs.Making.{can_make, making, pool_counts}
 use Rattle.sessions.specs.Writings.{Rewritten}
-use Rattle.runs.specs.declared.call.Call.{Call}
-use Rattle.runs.specs.declared.call.Call.TheVariants.{Put, Drop, Split, Advance, Open, Step, Close, Counts}
+use Rattle.requests.specs.declared.call.Call.{Call}
+use Rattle.requests.specs.declared.call.Call.TheVariants.{Put, Drop, Split, Advance, Open, Step, Close, Counts}
 use Rattle.runs.specs.declared.call.Argument.{Argument}
 use Rattle.runs.specs.declared.call.Doing.{Doing}
 use Rattle.runs.specs.declared.call.Doing.TheVariants.{Search, Copy, Rotation, Lookup}
 use Rattle.runs.specs.declared.call.Refusal.{Refusal}
 use Rattle.runs.specs.declared.call.Refusal.TheVariants.{BadSize, NoSession, HasLookup, NoLookup, IllFormed, NotBelow, UnderWay, AtRest, Overlaps, NoRegion, SameAsLow, Full, FewFree, StoreRefused}
-use Rattle.runs.specs.declared.call.Answer.{Answer}
-use Rattle.runs.specs.declared.call.Answer.TheVariants.{Pending, Opened, Closed, On, Nothing, Found, Nodes, Refused}
-use Rattle.runs.specs.Calls.{Kind}
+use Rattle.runs.specs.declared.call.Answer.TheVariants.{Pending, Opened, Closed, On, Nothing, Found, Nodes}
+use Rattle.runs.specs.Calls.{Kind, Outcome}
 use Rattle.runs.specs.Histories.{bits}
 use Rattle.runs.specs.Table.{keys_of, first_ill}
 use Rattle.runs.specs.States.{State, Cells, meant, Stage, closed, going, answered, Row, row, row_of}
@@ -80,20 +79,20 @@ module _ {F : Type 0} where
   session_refusal (InLookup e) = StoreRefused Lookup e
 
 module _ {K F : Type 0} where
-  abbrev pub edit_answer : Result ℕ EditRefusal → Answer K F
-  edit_answer (Ok n) = Pending n
-  edit_answer (Err e) = Refused (edit_refusal e)
+  abbrev pub edit_answer : Result ℕ EditRefusal → Outcome K F
+  edit_answer (Ok n) = Ok (Pending n)
+  edit_answer (Err e) = Err (edit_refusal e)
 
-  abbrev pub told_answer : Told K → Answer K F
-  told_answer HasOpened = Opened
-  told_answer (GoesOn n) = On n
-  told_answer (FoundNone n) = Nothing n
-  told_answer (FoundOne x n) = Found x n
-  told_answer Ended = Closed
+  abbrev pub told_answer : Told K → Outcome K F
+  told_answer HasOpened = Ok Opened
+  told_answer (GoesOn n) = Ok (On n)
+  told_answer (FoundNone n) = Ok (Nothing n)
+  told_answer (FoundOne x n) = Ok (Found x n)
+  told_answer Ended = Ok Closed
 
-  abbrev pub session_answer : Result (Told K) SessionFault → Answer K F
+  abbrev pub session_answer : Result (Told K) SessionFault → Outcome K F
   session_answer (Ok t) = told_answer t
-  session_answer (Err e) = Refused (session_refusal e)
+  session_answer (Err e) = Err (session_refusal e)
 
 -- WHAT A CALL ASKS before it looks at the tree: the size of the store, its session, its keys
 
@@ -128,14 +127,14 @@ module _ {K F : Type 0} (kd : Kind K F) where
   -- WHAT IT DOES, if it asks for nothing that is not there
 
   -- an edit: what was told of it is so for some free nodes, and every write falls on a node
-  pub record EditDoes (told : List ℕ → Result (Change K) EditRefusal) (x : State (Cells K)) (a : Answer K F) (y : State (Cells K)) : Type 0 where
+  pub record EditDoes (told : List ℕ → Result (Change K) EditRefusal) (x : State (Cells K)) (a : Outcome K F) (y : State (Cells K)) : Type 0 where
     pub result : Result ℕ EditRefusal
     pub edits : EditsInside x.memory y.memory (reverse x.pending) (reverse y.pending) x.root y.root result told
     pub answers : a ≡ edit_answer result
     pub rows : y.rows ≡ x.rows
 
   -- a call of a session
-  pub record ActDoes (s : ℕ) (c : SessionCall K) (x : State (Cells K)) (a : Answer K F) (y : State (Cells K)) : Type 0 where
+  pub record ActDoes (s : ℕ) (c : SessionCall K) (x : State (Cells K)) (a : Outcome K F) (y : State (Cells K)) : Type 0 where
     pub before : List SessionRow
     pub after : List SessionRow
     pub rows_before : x.rows ≡ map row_as before
@@ -159,10 +158,10 @@ module _ {K F : Type 0} (kd : Kind K F) where
   advance_of x ns = advanced x.memory (reverse x.pending) x.root (open_bits x.rows) ns
 
   -- the counts are those of the marks, and change nothing
-  abbrev pub CountsDo : State (Cells K) → Answer K F → State (Cells K) → Type 0
-  CountsDo x a y = let n = pool_counts x.memory in (a ≡ Nodes n.live n.waiting n.free) × (y ≡ x)
+  abbrev pub CountsDo : State (Cells K) → Outcome K F → State (Cells K) → Type 0
+  CountsDo x a y = let n = pool_counts x.memory in (a ≡ Ok (Nodes n.live n.waiting n.free)) × (y ≡ x)
 
-  abbrev pub Acts : Call K → State (Cells K) → Answer K F → State (Cells K) → Type 0
+  abbrev pub Acts : Call K → State (Cells K) → Outcome K F → State (Cells K) → Type 0
   Acts (Put low high rows) x a y = EditDoes (put_of x (region low high rows)) x a y
   Acts (Drop k) x a y = EditDoes (drop_of x k) x a y
   Acts (Split k m n) x a y = EditDoes (split_of x k m n) x a y
@@ -173,11 +172,11 @@ module _ {K F : Type 0} (kd : Kind K F) where
   Acts Counts x a y = CountsDo x a y
 
   -- refused for what it asked, with nothing changed, or done
-  abbrev pub DoesBy : Option (Refusal F) → Call K → State (Cells K) → Answer K F → State (Cells K) → Type 0
-  DoesBy (Some r) c x a y = (a ≡ Refused r) × (y ≡ x)
+  abbrev pub DoesBy : Option (Refusal F) → Call K → State (Cells K) → Outcome K F → State (Cells K) → Type 0
+  DoesBy (Some r) c x a y = (a ≡ Err r) × (y ≡ x)
   DoesBy None c x a y = Acts c x a y
 
-  abbrev pub DoesCells : State (Cells K) → Call K → Answer K F → State (Cells K) → Type 0
+  abbrev pub DoesCells : State (Cells K) → Call K → Outcome K F → State (Cells K) → Type 0
   DoesCells x c a y = DoesBy (asked x c) c x a y
 
   -- THE MAKING
@@ -189,7 +188,7 @@ module _ {K F : Type 0} (kd : Kind K F) where
 
   -- OVER MEMORIES that mean cells: what is fit stays fit
   module _ {M : Type 0} (cells : M → Cells K) (fit : M → Type 0) where
-    pub record Does (x : State M) (c : Call K) (a : Answer K F) (y : State M) : Type 0 where
+    pub record Does (x : State M) (c : Call K) (a : Outcome K F) (y : State M) : Type 0 where
       pub does : DoesCells (meant cells x) c a (meant cells y)
       pub keeps : fit x.memory → fit y.memory
 

@@ -8,12 +8,11 @@ use Rattle.search.specs.Frees.{Chosen}
 use Rattle.commits.specs.Commits.{Writes, GoneInside}
 use Rattle.edits.specs.declared.fault.Refusal.{Refusal as EditRefusal}
 use Rattle.edits.specs.Calls.{Change}
-use Rattle.runs.specs.declared.call.Call.{Call}
-use Rattle.runs.specs.declared.call.Call.TheVariants.{Put, Drop, Split, Advance, Open, Step, Close, Counts}
+use Rattle.requests.specs.declared.call.Call.{Call}
+use Rattle.requests.specs.declared.call.Call.TheVariants.{Put, Drop, Split, Advance, Open, Step, Close, Counts}
 use Rattle.runs.specs.declared.call.Refusal.{Refusal}
-use Rattle.runs.specs.declared.call.Answer.{Answer}
-use Rattle.runs.specs.declared.call.Answer.TheVariants.{Pending, Refused}
-use Rattle.runs.specs.Calls.{Kind, edit_of, accepted}
+use Rattle.runs.specs.declared.call.Answer.TheVariants.{Pending}
+use Rattle.runs.specs.Calls.{Kind, edit_of, accepted, Outcome}
 use Rattle.runs.specs.States.{State, Cells}
 use Rattle.runs.specs.Table.{Scene, Fits, FirstLine}
 use Rattle.runs.specs.Effects.{Done, Exact}
@@ -24,7 +23,7 @@ use Rattle.calls.specs.Does.{edit_refusal, asked, Acts, put_of, drop_of, split_o
 
 module _ {K F : Type 0} (kd : Kind K F) where
   -- a call is exact, and leaves every cell as it may; the tree is at the place `after`
-  pub record CallExact (z : State (Cells K)) (ts : List (Turn (Cells K) K F)) (p : Place ℕ (Region K)) (c : Call K) (a : Answer K F) (y : State (Cells K)) : Type 0 where
+  pub record CallExact (z : State (Cells K)) (ts : List (Turn (Cells K) K F)) (p : Place ℕ (Region K)) (c : Call K) (a : Outcome K F) (y : State (Cells K)) : Type 0 where
     pub after : Place ℕ (Region K)
     pub exact : Exact kd (scene_at kd z ts p) c a y after
     pub framed : Framed (accepted a) kd.filler c (open_sessions (history ts)) (state z ts) y p after
@@ -33,12 +32,12 @@ module _ {K F : Type 0} (kd : Kind K F) where
   abbrev pub AskedExact : Type 0
   AskedExact =
       (z : State (Cells K)) (ts : List (Turn (Cells K) K F)) (p : Place ℕ (Region K)) (c : Call K) (r : Refusal F) → Inv kd z ts p →
-      asked kd (state z ts) c ≡ Some r → CallExact z ts p c (Refused r) (state z ts)
+      asked kd (state z ts) c ≡ Some r → CallExact z ts p c (Err r) (state z ts)
 
   -- THE CALLS OF SESSIONS AND COUNTS
   abbrev pub ActsExact : Type 0
   ActsExact =
-      (z : State (Cells K)) (ts : List (Turn (Cells K) K F)) (p : Place ℕ (Region K)) (c : Call K) (a : Answer K F) (y : State (Cells K)) →
+      (z : State (Cells K)) (ts : List (Turn (Cells K) K F)) (p : Place ℕ (Region K)) (c : Call K) (a : Outcome K F) (y : State (Cells K)) →
       Inv kd z ts p → LookupsKept kd z ts → edit_of c ≡ None → asked kd (state z ts) c ≡ None → Acts kd c (state z ts) a y → FitCells y.memory →
       CallExact z ts p c a y
 
@@ -68,7 +67,7 @@ module _ {K F : Type 0} (kd : Kind K F) where
   -- what is done is what the rules say, with new nodes at the free numbers ns
   pub record EditMade (z : State (Cells K)) (ts : List (Turn (Cells K) K F)) (p : Place ℕ (Region K)) (c : Call K) (ch : Change K) (y : State (Cells K)) : Type 0 where
     pub after : Place ℕ (Region K)
-    pub done : Done kd (scene_at kd z ts p) c (Pending (length ch.path)) y after
+    pub done : Done kd (scene_at kd z ts p) c (Ok (Pending (length ch.path))) y after
     pub framed : FrameOf kd.filler c (open_sessions (history ts)) (state z ts) y p after
 
   abbrev pub EditsAsMade : Type 0

@@ -5,6 +5,4 @@ ghost use Rattle.calls.specs.Does.{EditDoes};
 ghost use Rattle.calls.specs.Exacts.{CallExact};
 
 // Checks the definitions.
-pub fn calls_read() -> u8 {
-    0
-}
+pub fn calls_read() {}

@@ -1,7 +1,7 @@
 -- The empty text is below every other.
 use Rattle.std.proofs.Common.{◌≡◌, ℕ, zero, suc, ◌+◌, ◌<◌, Bool, true, false, cond, eqb, List, [], ◌∷◌, length, take, replicate, Some, None, Ok, Option, refl, ap, ◌∙◌, subst, arith}
 use Rattle.std.proofs.lemmas.Bool.Decides.{nat_tests}
-use Rattle.keys.specs.declared.order.Order.TheVariants.{Below}
+use Rattle.std.specs.declared.cmp.Ordering.TheVariants.{Less}
 use Rattle.keys.specs.declared.text.Text.{Text}
 use Rattle.keys.specs.declared.text.TextFault.{TextFault}
 use Rattle.keys.specs.declared.text.TextFault.TheVariants.{Stray}
@@ -20,7 +20,7 @@ zeros place [] e = refl
 zeros place (b ∷ bs) e = zeros_by place b bs (eqb b 0) refl (zeros (place + 1) bs) e
 
 -- a text of some length is above the empty one
-above_empty : (n : ℕ) (bs : List ℕ) → 0 < n → 0 < length bs → order_bytes [] (take n bs) ≡ Below
+above_empty : (n : ℕ) (bs : List ℕ) → 0 < n → 0 < length bs → order_bytes [] (take n bs) ≡ Less
 unfolding order_bytes
 above_empty zero bs h k = let z : ⊥ = omega arith in elim z [ ]
 above_empty (suc n) [] h k = let z : ⊥ = omega arith in elim z [ ]
@@ -34,7 +34,7 @@ no_length t z l w =
     ap (λ n. let u : Text = record { len = n; bytes = t.bytes } in u) z
     ∙ ap (λ bs. let u : Text = record { len = 0; bytes = bs } in u) (zeros 0 t.bytes none ∙ ap (λ n. replicate n 0) l)
 
-pub empty_first : (t : Text) → length t.bytes ≡ 16 → text_fault t ≡ None → (t ≡ text_filler → ⊥) → compare_texts text_filler t ≡ Ok Below
+pub empty_first : (t : Text) → length t.bytes ≡ 16 → text_fault t ≡ None → (t ≡ text_filler → ⊥) → compare_texts text_filler t ≡ Ok Less
 empty_first t l w other =
     let some : t.len ≡ 0 → ⊥ = λ z. other (no_length t z l w) in
     rw w (ap Ok (above_empty t.len t.bytes (omega arith) (omega arith)))

@@ -1,7 +1,7 @@
 -- Worked examples, over the definitions that the contracts cite.
 use Rattle.std.specs.Prelude.{◌≡◌, ℕ, ◌-◌, List, [], ◌∷◌, ◌++◌, length, replicate, ℤ, pos, negsuc, Some, None, Ok, codes, Result, ◌≢◌}
-use Rattle.keys.specs.declared.order.Order.{Order}
-use Rattle.keys.specs.declared.order.Order.TheVariants.{Below, Same}
+use Rattle.std.specs.declared.cmp.Ordering.{Ordering}
+use Rattle.std.specs.declared.cmp.Ordering.TheVariants.{Less, Equal}
 use Rattle.keys.specs.declared.decimal.Decimal.{Decimal}
 use Rattle.keys.specs.declared.decimal.DecimalFault.{DecimalFault}
 use Rattle.keys.specs.declared.decimal.DecimalFault.TheVariants.{Coefficient, Scale}
@@ -21,25 +21,25 @@ abbrev pub text : List ℕ → Text
 text bs = record { len = length bs; bytes = bs ++ replicate (16 - length bs) 0 }
 
 -- what comparing two decimals, or two texts, answers
-abbrev pub compare_decimals : Decimal → Decimal → Result Order DecimalFault
+abbrev pub compare_decimals : Decimal → Decimal → Result Ordering DecimalFault
 compare_decimals a b = compared (decimal_fault a) (decimal_fault b) (decimal_order a b)
 
-abbrev pub compare_texts : Text → Text → Result Order TextFault
+abbrev pub compare_texts : Text → Text → Result Ordering TextFault
 compare_texts a b = compared (text_fault a) (text_fault b) (text_order a b)
 
 pub record Worked : Type 0 where
   -- 1.50 is the same as 1.5
-  pub same_value : compare_decimals (decimal (pos 150) 2) (decimal (pos 15) 1) ≡ Ok Same
+  pub same_value : compare_decimals (decimal (pos 150) 2) (decimal (pos 15) 1) ≡ Ok Equal
   -- −1 is below −0.000000001
-  pub below_zero : compare_decimals (decimal (negsuc 0) 0) (decimal (negsuc 0) 9) ≡ Ok Below
+  pub below_zero : compare_decimals (decimal (negsuc 0) 0) (decimal (negsuc 0) 9) ≡ Ok Less
   -- a coefficient and a scale out of range, and the largest of both
   pub coefficient_high : decimal_fault (decimal (pos 1000000000) 0) ≡ Some (Coefficient (pos 1000000000))
   pub scale_high : decimal_fault (decimal (pos 0) 10) ≡ Some (Scale 10)
   pub largest : decimal_fault (decimal (pos 999999999) 9) ≡ None
   -- a text that begins another is below it
-  pub prefix : compare_texts (text (codes "ab")) (text (codes "abc")) ≡ Ok Below
+  pub prefix : compare_texts (text (codes "ab")) (text (codes "abc")) ≡ Ok Less
   -- the empty text is below every other well-formed text of 16 bytes
-  pub empty_first : (t : Text) → length t.bytes ≡ 16 → text_fault t ≡ None → (t ≢ text_filler) → compare_texts text_filler t ≡ Ok Below
+  pub empty_first : (t : Text) → length t.bytes ≡ 16 → text_fault t ≡ None → (t ≢ text_filler) → compare_texts text_filler t ≡ Ok Less
   -- sides of sizes 0 and 2 are balanced, 0 and 3 not; 1 and 5 are, 1 and 6 not
   pub sizes : SizesBalanced 0 2 × (SizesBalanced 0 3 → ⊥) × SizesBalanced 1 5 × (SizesBalanced 1 6 → ⊥)
   -- what puts and a drop build, every edit finished

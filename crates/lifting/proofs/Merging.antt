@@ -1,5 +1,5 @@
 -- Drop and split at a node of the tree.
-use Rattle.std.proofs.Common.{◌≡◌, ℕ, suc, ◌+◌, ◌<◌, ◌≤◌, false, eqb, List, [], ◌∷◌, ◌++◌, Result, sym, refl, subst, append-nil, arith}
+use Rattle.std.proofs.Common.{◌≡◌, ℕ, suc, ◌+◌, ◌<◌, ◌≤◌, false, eqb, List, [], ◌∷◌, ◌++◌, Some, None, Result, sym, refl, subst, append-nil, arith}
 use Rattle.store.specs.declared.node.Region.{Region}
 use Rattle.store.specs.declared.fault.StoreFault.{StoreFault}
 use Rattle.store.specs.Cells.{Cell, cell_at, readable}
@@ -9,7 +9,6 @@ use Rattle.trees.specs.Rotations.{Label, kept as stays, new, balance}
 use Rattle.trees.specs.Edits.{least, rebuilt, with_least, dropped}
 use Rattle.drafts.specs.declared.link.Numbered.{Numbered}
 use Rattle.drafts.specs.Grown.{Grown, kept, Built, bind, seen, tree, balanced}
-use Rattle.walks.specs.declared.walk.Edge.TheVariants.{Cut, Grow}
 use Rattle.walks.specs.Walks.{sprout, merged, grown_by, parted}
 use Rattle.lifting.specs.Lifts.{keeps, leaves, AllRead, Stands, Lifted, edge_length, end_of, BothSides}
 use Rattle.lifting.proofs.Seeing.{sees, node_some, read_parts}
@@ -41,15 +40,15 @@ module _ {K : Type 0} (cs : List (Cell K)) where
       cell_at cs p.number ≡ readable p.node → Stands cs (kept p.node.left) l → Stands cs (kept p.node.right) (node (stays i) c z d) →
       edge_length c ≤ 26 → count l + (count c + count d) < 65533 →
       ((j : ℕ) → leaves j (p ∷ []) + (keeps j l + keeps j (node (stays i) c z d)) ≡ before j) →
-      Lifted cs before [] (merged cs p) (balance new l (least c z) (rebuilt (end_of Cut) c z d))
+      Lifted cs before [] (merged cs p) (balance new l (least c z) (rebuilt (end_of None) c z d))
   unfolding merged
   merged_at before p l i c z d h sl sr short few same =
-      let w = walk_lifts cs 26 Cut (p ∷ []) p.node.right i c z d sr short (omega arith) in
-      let t : Tree Label (Region K) = rebuilt (end_of Cut) c z d in
+      let w = walk_lifts cs 26 None (p ∷ []) p.node.right i c z d sr short (omega arith) in
+      let t : Tree Label (Region K) = rebuilt (end_of None) c z d in
       after cs _ w.made _ w.is (after cs _ w.last _ w.reads
       (subst (λ x. Lifted cs before [] (over_left p w.made.gone w.made.side (region_of w.last)) (balance new l x t)) w.holds
       (last_step before p w.more w.made.gone w.made.side (region_of w.last) l t h sl w.stands w.left w.as_read
-      (omega (arith, rebuilt_count cs Cut c z d)) (λ j. omega (arith, same j, w.same j)))))
+      (omega (arith, rebuilt_count cs None c z d)) (λ j. omega (arith, same j, w.same j)))))
 
   pub merged_lifts :
       (p : Numbered K) (t : Tree Label (Region K)) → Stands cs (kept p.number) t → cell_at cs p.number ≡ readable p.node → BothSides t →
@@ -77,7 +76,7 @@ module _ {K : Type 0} (cs : List (Cell K)) where
   }
   grown_lifts gone z n (node new a x b) s short few = absurd s
   grown_lifts gone z n (node (stays m) a x b) (v, e, ok, sa, sb) short few =
-      let w = walk_lifts cs 26 (Grow z) gone n m a x b (v, e, ok, sa, sb) (omega arith) (omega arith) in
+      let w = walk_lifts cs 26 (Some z) gone n m a x b (v, e, ok, sa, sb) (omega arith) (omega arith) in
       let some : eqb n 0 ≡ false = subst (λ i. eqb i 0 ≡ false) (sym e) (node_some cs m _ _ v ok) in
       record {
         made = record { side = w.made.side; gone = w.made.gone };
@@ -91,7 +90,7 @@ module _ {K : Type 0} (cs : List (Cell K)) where
 
   with_least_count : (z : Region K) (r : Tree Label (Region K)) → count (with_least z r) ≡ suc (count r)
   with_least_count z leaf = refl
-  with_least_count z (node o a x b) = omega (arith, rebuilt_count cs (Grow z) a x b)
+  with_least_count z (node o a x b) = omega (arith, rebuilt_count cs (Some z) a x b)
 
   pub parted_lifts :
       (p : Numbered K) (o : Label) (l : Tree Label (Region K)) (x : Region K) (r : Tree Label (Region K)) (y z : Region K) →

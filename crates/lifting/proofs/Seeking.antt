@@ -1,12 +1,10 @@
 -- How a search turns at a node: for the region that holds a key, and for what a region overlaps.
 use Rattle.std.proofs.Common.{◌≡◌, ℕ, Bool, true, false, cond, ◌||◌, List, [], ◌∷◌, Some, None, sym, refl, ◌∙◌, subst, arith}
-use Rattle.keys.specs.declared.order.Order.{Order}
-use Rattle.keys.specs.declared.order.Order.TheVariants.{Below, Same, Above}
 use Rattle.store.specs.declared.node.Node.{Node}
 use Rattle.store.specs.declared.node.Region.{Region}
 use Rattle.store.specs.Cells.{Cell}
 use Rattle.store.specs.Nodes.{region_of}
-use Rattle.trees.specs.Regions.{Ranges, Laws, is_below as below_of, below, Region as WellMade, overlap, overlaps}
+use Rattle.trees.specs.Regions.{Ranges, Laws, below, Region as WellMade, overlap, overlaps}
 use Rattle.trees.specs.Trees.{Side, left, right, Turn, to_left, here, to_right, at_turn, Tree, leaf, node, inorder, seek, visited}
 use Rattle.trees.specs.Edits.{Frame, frame, Place, place, descend}
 use Rattle.trees.proofs.Risings.{All, all_mid}
@@ -14,15 +12,10 @@ use Rattle.trees.proofs.Orders.{not_below, below_chain, left_if, right_if, firm,
 use Rattle.trees.proofs.Overlaps.{overlap_on_path}
 use Rattle.drafts.specs.declared.link.Lean.TheVariants.{Right, Left}
 use Rattle.search.specs.declared.search.Sought.TheVariants.{Holder, Overlap}
-use Rattle.search.specs.Searches.{is_below, less_by, side_for}
+use Rattle.search.specs.Searches.{less_by, side_for}
 use Rattle.runs.specs.Calls.{Kind, regions}
 use Rattle.lifting.specs.Ways.{top_number, GoesTo, HolderDescends, ByOverlap, OverlapDescends}
 use Rattle.lifting.proofs.Descending.{turn_by, goes_to}
-
-same_below : (o : Order) → is_below o ≡ below_of o
-same_below Below = refl
-same_below Same = refl
-same_below Above = refl
 
 module _ {K F : Type 0} (kd : Kind K F) (laws : Laws (regions kd)) where
   abbrev less : K → K → Bool
@@ -30,7 +23,7 @@ module _ {K F : Type 0} (kd : Kind K F) (laws : Laws (regions kd)) where
 
   less_is : (a b : K) → kd.fault a ≡ None → kd.fault b ≡ None → less a b ≡ below (regions kd) a b
   unfolding less_by
-  less_is a b p q = rw (p, q) (same_below (kd.order a b))
+  less_is a b p q = rw (p, q) refl
 
   -- THE HOLDER OF A KEY
 

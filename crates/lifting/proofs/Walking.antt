@@ -1,5 +1,5 @@
 -- The walk down a left edge. One proof serves both ends, that of drop and that of split.
-use Rattle.std.proofs.Common.{◌≡◌, ℕ, zero, suc, ◌+◌, ◌<◌, ◌≤◌, true, false, eqb, List, [], ◌∷◌, ◌++◌, Ok, Result, sym, refl, ◌∙◌, subst, append_assoc, append-nil, arith}
+use Rattle.std.proofs.Common.{◌≡◌, ℕ, zero, suc, ◌+◌, ◌<◌, ◌≤◌, true, false, eqb, List, [], ◌∷◌, ◌++◌, Some, None, Option, Ok, Result, sym, refl, ◌∙◌, subst, append_assoc, append-nil, arith}
 use Rattle.store.specs.declared.node.Node.{Node}
 use Rattle.store.specs.declared.node.Region.{Region}
 use Rattle.store.specs.declared.fault.StoreFault.{StoreFault}
@@ -11,8 +11,6 @@ use Rattle.trees.specs.Edits.{least, rebuilt, sprout as sprout_of}
 use Rattle.trees.proofs.Rotations.{balance_count}
 use Rattle.drafts.specs.declared.link.Numbered.{Numbered}
 use Rattle.drafts.specs.Grown.{kept, tree, weight, opened, without, joined}
-use Rattle.walks.specs.declared.walk.Edge.{Edge}
-use Rattle.walks.specs.declared.walk.Edge.TheVariants.{Cut, Grow}
 use Rattle.walks.specs.Walks.{Graft, numbered, sprout, graft_of, walked_as, edge_end, edge_over, walked}
 use Rattle.runs.specs.States.{NodeInTree}
 use Rattle.lifting.specs.Lifts.{keeps, leaves, AllRead, Stands, Shows, edge_length, least_label, end_of, WalkLifted}
@@ -49,19 +47,19 @@ module _ {K : Type 0} (cs : List (Cell K)) where
   }
 
   -- how many regions an end adds, the lowest node's counted
-  abbrev added : Edge K → ℕ
-  added Cut = 0
-  added (Grow z) = 2
+  abbrev added : Option (Region K) → ℕ
+  added None = 0
+  added (Some z) = 2
 
-  end_count : (e : Edge K) (y : Region K) (u : Tree Label (Region K)) → count (end_of e y u) ≡ added e + count u
-  end_count Cut y u = omega arith
-  end_count (Grow z) y u = omega (arith, balance_count new (sprout_of z) y u)
+  end_count : (e : Option (Region K)) (y : Region K) (u : Tree Label (Region K)) → count (end_of e y u) ≡ added e + count u
+  end_count None y u = omega arith
+  end_count (Some z) y u = omega (arith, balance_count new (sprout_of z) y u)
 
   end_lifts :
-      (e : Edge K) (gone : List (Numbered K)) (v : Node K) (b : Tree Label (Region K)) → Stands cs (kept v.right) b → count b < 65534 →
+      (e : Option (Region K)) (gone : List (Numbered K)) (v : Node K) (b : Tree Label (Region K)) → Stands cs (kept v.right) b → count b < 65534 →
       Grafted (λ n. leaves n gone + keeps n b) gone (edge_end cs gone e v) (end_of e (region_of v) b)
   unfolding edge_end
-  end_lifts Cut gone v b s few = record {
+  end_lifts None gone v b s few = record {
     made = record { side = kept v.right; gone = gone };
     is = refl;
     stands = s;
@@ -70,28 +68,28 @@ module _ {K : Type 0} (cs : List (Cell K)) where
     as_read = tt;
     same = λ n. refl;
   }
-  end_lifts (Grow z) gone v b s few =
+  end_lifts (Some z) gone v b s few =
       let r = sees cs (kept v.right) b s in
       let m =
       balanced_lifts cs (λ n. leaves n gone + keeps n b) gone (region_of v) (sprout z) r.side (sprout_of z) b (sprout_shows z) r.shows (omega arith)
       (λ n. omega arith) in
       record { made = graft_of m.made; is = rw (r.is, m.is); stands = m.stands; more = m.more; left = m.left; as_read = m.as_read; same = m.same }
 
-  pub rebuilt_count : (e : Edge K) (a : Tree Label (Region K)) (x : Region K) (b : Tree Label (Region K)) → count (rebuilt (end_of e) a x b) ≡ added e + (count a + count b)
+  pub rebuilt_count : (e : Option (Region K)) (a : Tree Label (Region K)) (x : Region K) (b : Tree Label (Region K)) → count (rebuilt (end_of e) a x b) ≡ added e + (count a + count b)
   rebuilt_count e leaf x b = omega (arith, end_count e x b)
   rebuilt_count e (node p c y d) x b = omega (arith, rebuilt_count e c y d, balance_count new (rebuilt (end_of e) c y d) x b)
 
-  added_few : (e : Edge K) → added e ≤ 2
-  added_few Cut = omega arith
-  added_few (Grow z) = omega arith
+  added_few : (e : Option (Region K)) → added e ≤ 2
+  added_few None = omega arith
+  added_few (Some z) = omega arith
 
-  abbrev Told : ℕ → Edge K → List (Numbered K) → ℕ → ℕ → Tree Label (Region K) → Region K → Tree Label (Region K) → Type 0
+  abbrev Told : ℕ → Option (Region K) → List (Numbered K) → ℕ → ℕ → Tree Label (Region K) → Region K → Tree Label (Region K) → Type 0
   Told k e gone n m a x b =
       WalkLifted cs (λ j. leaves j gone + keeps j (node (stays m) a x b)) gone (walked k cs e gone n) (least_label a (stays m)) (least a x) (rebuilt (end_of e) a x b)
 
   -- the lowest node of the edge
   at_end :
-      (k : ℕ) (e : Edge K) (gone : List (Numbered K)) (m : ℕ) (v : Node K) (b : Tree Label (Region K)) → read_answer cs m ≡ Ok v →
+      (k : ℕ) (e : Option (Region K)) (gone : List (Numbered K)) (m : ℕ) (v : Node K) (b : Tree Label (Region K)) → read_answer cs m ≡ Ok v →
       cell_at cs m ≡ readable v → eqb v.left 0 ≡ true → Stands cs (kept v.right) b → count b < 65534 → Told k e gone m m leaf (region_of v) b
   unfolding walked
   at_end k e gone m v b f c z s few = by_depth k
@@ -123,7 +121,7 @@ module _ {K : Type 0} (cs : List (Cell K)) where
 
   -- a node above it
   above_end :
-      (k : ℕ) (e : Edge K) (gone : List (Numbered K)) (m i : ℕ) (v : Node K) (c : Tree Label (Region K)) (y : Region K) (d b : Tree Label (Region K)) →
+      (k : ℕ) (e : Option (Region K)) (gone : List (Numbered K)) (m i : ℕ) (v : Node K) (c : Tree Label (Region K)) (y : Region K) (d b : Tree Label (Region K)) →
       read_answer cs m ≡ Ok v → cell_at cs m ≡ readable v → eqb v.left 0 ≡ false → Stands cs (kept v.right) b →
       count (node (stays i) c y d) + count b < 65534 → Told k e (gone ++ (numbered m v ∷ [])) v.left i c y d →
       Told (suc k) e gone m m (node (stays i) c y d) (region_of v) b
@@ -153,13 +151,13 @@ module _ {K : Type 0} (cs : List (Cell K)) where
 
   -- the number of a node and its region as the tree has them
   told_at :
-      (k : ℕ) (e : Edge K) (gone : List (Numbered K)) (n m : ℕ) (a : Tree Label (Region K)) (x : Region K) (b : Tree Label (Region K)) (v : Node K) → n ≡ m →
+      (k : ℕ) (e : Option (Region K)) (gone : List (Numbered K)) (n m : ℕ) (a : Tree Label (Region K)) (x : Region K) (b : Tree Label (Region K)) (v : Node K) → n ≡ m →
       {many : ℕ} → NodeInTree cs [] m x many v → Told k e gone m m a (region_of v) b → Told k e gone n m a x b
   told_at k e gone n m a x b v en ok h = subst (λ i. Told k e gone i m a x b) (sym en) (subst (λ y. Told k e gone m m a y b) ok.the_region h)
 
   -- THE WALK over a side that stands, where its left edge is short enough
   pub walk_lifts :
-      (k : ℕ) (e : Edge K) (gone : List (Numbered K)) (n m : ℕ) (a : Tree Label (Region K)) (x : Region K) (b : Tree Label (Region K)) →
+      (k : ℕ) (e : Option (Region K)) (gone : List (Numbered K)) (n m : ℕ) (a : Tree Label (Region K)) (x : Region K) (b : Tree Label (Region K)) →
       Stands cs (kept n) (node (stays m) a x b) → edge_length a ≤ k → count a + count b < 65534 → Told k e gone n m a x b
   walk_lifts k e gone n m leaf x b (v, en, ok, sl, sr) short few =
       told_at k e gone n m leaf x b v en ok (at_end k e gone m v b (node_reads cs m _ _ v ok) ok.can_be_read (none_at v.left sl) sr (omega arith))

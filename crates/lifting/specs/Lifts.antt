@@ -12,8 +12,6 @@ use Rattle.trees.specs.Paths.{times, inside}
 use Rattle.drafts.specs.declared.link.Numbered.{Numbered}
 use Rattle.drafts.specs.declared.link.Lean.{Lean}
 use Rattle.drafts.specs.Grown.{Grown, kept, built, Seen, Parts, Built, tree, weight, opened, without, rotated}
-use Rattle.walks.specs.declared.walk.Edge.{Edge}
-use Rattle.walks.specs.declared.walk.Edge.TheVariants.{Cut, Grow}
 use Rattle.walks.specs.Walks.{Walked}
 use Rattle.runs.specs.States.{NodeInTree}
 
@@ -103,9 +101,9 @@ module _ {K : Type 0} where
   Treated cs before gone o x l r tl tr u (Some s) = Lifted cs before gone (rotated cs gone s x l r) u
 
   -- what the walk puts in place of the lowest node of an edge, of its region and its right side
-  abbrev pub end_of : Edge K → Region K → Tree Label (Region K) → Tree Label (Region K)
-  end_of Cut y u = u
-  end_of (Grow z) y u = balance new (sprout z) y u
+  abbrev pub end_of : Option (Region K) → Region K → Tree Label (Region K) → Tree Label (Region K)
+  end_of None y u = u
+  end_of (Some z) y u = balance new (sprout z) y u
 
   -- A walk went well, and what it built stands for a tree; what leaves by it is counted as above. Its least node is the one labelled o,
   -- and can be read: it has the region x.

@@ -1,5 +1,5 @@
 -- What is proved of drafts and trees, as statements for contracts.
-use Rattle.std.specs.Prelude.{◌≡◌, ℕ, ◌+◌, ◌<◌, ◌≤◌, false, List, [], ◌∷◌, Ok}
+use Rattle.std.specs.Prelude.{◌≡◌, ℕ, ◌+◌, ◌<◌, ◌≤◌, false, List, [], ◌∷◌, Option, Ok}
 use Rattle.store.specs.declared.node.Region.{Region}
 use Rattle.store.specs.Cells.{Cell, cell_at, readable}
 use Rattle.store.specs.Nodes.{region_of}
@@ -9,7 +9,6 @@ use Rattle.trees.specs.Edits.{Frame, labels, plug, standing, least, rebuilt, dro
 use Rattle.trees.specs.Rotations.{Label, new, balance}
 use Rattle.drafts.specs.declared.link.Numbered.{Numbered}
 use Rattle.drafts.specs.Grown.{Grown, kept, Seen, seen, tree, weight, heavy_side, balanced}
-use Rattle.walks.specs.declared.walk.Edge.{Edge}
 use Rattle.walks.specs.Walks.{walked, merged, parted}
 use Rattle.runs.specs.States.{member, Spells}
 use Rattle.lifting.specs.Lifts.{keeps, leaves, edge_length, least_label, end_of, Stands, Shows, Lifted, Treated, WalkLifted, BothSides}
@@ -81,7 +80,7 @@ module _ (K : Type 0) where
   -- THE WALK down the left edge of a side, for either end
   abbrev pub WalkLifts : Type 0
   WalkLifts =
-      (cs : List (Cell K)) (k : ℕ) (e : Edge K) (gone : List (Numbered K)) (n : ℕ) (o : Label) (a : Tree Label (Region K)) (x : Region K)
+      (cs : List (Cell K)) (k : ℕ) (e : Option (Region K)) (gone : List (Numbered K)) (n : ℕ) (o : Label) (a : Tree Label (Region K)) (x : Region K)
       (b : Tree Label (Region K)) → Stands cs (kept n) (node o a x b) → edge_length a ≤ k → count (node o a x b) < 65535 →
       WalkLifted cs (λ j. leaves j gone + keeps j (node o a x b)) gone (walked k cs e gone n) (least_label a o) (least a x) (rebuilt (end_of e) a x b)
 

@@ -1,12 +1,11 @@
 -- What holds of every open lookup after each call of a run, and that each call keeps it.
-use Rattle.std.proofs.Common.{◌≡◌, ℕ, suc, ◌<◌, ◌≤◌, T, List, [], ◌∷◌, length, get_or, Some, None, Option, sym, refl, ap, ◌∙◌, subst, arith, le→leb}
+use Rattle.std.proofs.Common.{◌≡◌, ℕ, suc, ◌<◌, ◌≤◌, T, List, [], ◌∷◌, length, get_or, Some, None, Option, sym, refl, ap, ◌∙◌, subst, arith, le→leb, Ok, Err}
 use Rattle.store.specs.declared.node.Region.{Region}
 use Rattle.trees.specs.Regions.{Laws, gives}
 use Rattle.trees.specs.Trees.{Tree, leaf, node, seek}
 use Rattle.trees.specs.Edits.{Place, whole}
-use Rattle.runs.specs.declared.call.Answer.{Answer}
-use Rattle.runs.specs.declared.call.Answer.TheVariants.{Pending, Opened, Closed, On, Nothing, Found, Nodes, Refused}
-use Rattle.runs.specs.Calls.{Kind, regions}
+use Rattle.runs.specs.declared.call.Answer.TheVariants.{Pending, Opened, Closed, On, Nothing, Found, Nodes}
+use Rattle.runs.specs.Calls.{Kind, regions, Outcome}
 use Rattle.runs.specs.Histories.{Event, History, at, set_of, First, Lookup, lookup, begun_by, open_since, told, first_told}
 use Rattle.runs.specs.States.{State, Cells, Row, row, closed, row_of, Spells}
 use Rattle.runs.specs.Effects.{StepTells}
@@ -162,22 +161,22 @@ module _ {K F : Type 0} (kd : Kind K F) where
 
       module _ (steps_more : suc l.steps ≡ l'.steps) (g : Goes z ts p s l) (w : Row) (r : row_of t.after s ≡ w) where
         told_over :
-            (a : Answer K F) →
+            (a : Outcome K F) →
             AfterStep (LeftSince z ts l.since) (SetGave kd (history ts) l.since l.key) (seek (regions kd) l.key) (state z ts).memory (whole p)
             (row_of (state z ts) s).place g.seen a w →
             GoesOrAnswered z (t ∷ ts) p' s l' (told (suc (length (history ts))) a)
-        told_over (Found x n) a = first_answer (Some x) n a.0 (found_over w r x a.1)
-        told_over (Nothing n) a = first_answer None n a.0 (ap (λ (v : Row). v.place) r ∙ a.1)
-        told_over (On n) a = record {
+        told_over (Ok (Found x n)) a = first_answer (Some x) n a.0 (found_over w r x a.1)
+        told_over (Ok (Nothing n)) a = first_answer None n a.0 (ap (λ (v : Row). v.place) r ∙ a.1)
+        told_over (Ok (On n)) a = record {
           seen = (row_of (state z ts) s).place ∷ g.seen;
           as_many = ap suc g.as_many ∙ steps_more;
           going = going_over w r ((row_of (state z ts) s).place ∷ g.seen) a;
         }
-        told_over (Pending n) a = absurd a
-        told_over Opened a = absurd a
-        told_over Closed a = absurd a
-        told_over (Nodes b c d) a = absurd a
-        told_over (Refused c) a = absurd a
+        told_over (Ok (Pending n)) a = absurd a
+        told_over (Ok Opened) a = absurd a
+        told_over (Ok Closed) a = absurd a
+        told_over (Ok (Nodes b c d)) a = absurd a
+        told_over (Err c) a = absurd a
 
       step_over :
           suc l.steps ≡ l'.steps → s < 32 → (f : Option (First K)) → GoesOrAnswered z ts p s l f → StepTells kd (state z ts) s l f t.answer t.after.rows →

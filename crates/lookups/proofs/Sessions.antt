@@ -6,16 +6,15 @@ use Rattle.trees.specs.Edits.{Place, whole}
 use Rattle.runs.specs.declared.call.Argument.TheVariants.{Key}
 use Rattle.runs.specs.declared.call.Refusal.{Refusal}
 use Rattle.runs.specs.declared.call.Refusal.TheVariants.{NoSession, IllFormed}
-use Rattle.runs.specs.declared.call.Call.{Call}
-use Rattle.runs.specs.declared.call.Call.TheVariants.{Put, Drop, Split, Advance, Open, Step, Close, Counts}
-use Rattle.runs.specs.declared.call.Answer.{Answer}
-use Rattle.runs.specs.Calls.{Kind, accepted}
+use Rattle.requests.specs.declared.call.Call.{Call}
+use Rattle.requests.specs.declared.call.Call.TheVariants.{Put, Drop, Split, Advance, Open, Step, Close, Counts}
+use Rattle.runs.specs.Calls.{Kind, accepted, Outcome}
 use Rattle.runs.specs.Histories.{History, First, Lookup, lookup, lookup_after, with_step, first_told}
 use Rattle.runs.specs.States.{State, Cells, Row, row, closed, going, as_closed, row_of}
 use Rattle.runs.specs.Table.{Scene, session_of, Fits, no_session, ill_formed}
 use Rattle.runs.specs.Effects.{StepTells, StepAnswers, Done, Exact}
 
-module _ {K F : Type 0} (kd : Kind K F) (h : History K F) (x : State (Cells K)) (p : Place ℕ (Region K)) (a : Answer K F) (y : State (Cells K)) (p' : Place ℕ (Region K)) where
+module _ {K F : Type 0} (kd : Kind K F) (h : History K F) (x : State (Cells K)) (p : Place ℕ (Region K)) (a : Outcome K F) (y : State (Cells K)) (p' : Place ℕ (Region K)) where
   abbrev scene : Scene K F
   scene = record { past = h; state = x; place = p }
 

@@ -7,8 +7,7 @@ use Rattle.store.specs.Nodes.{region_of}
 use Rattle.trees.specs.Trees.{Turn, to_left, here, to_right, Tree, found, seek}
 use Rattle.trees.specs.Paths.{times, On, In}
 use Rattle.trees.proofs.Ancestors.{on_inside, times_append}
-use Rattle.runs.specs.declared.call.Answer.{Answer}
-use Rattle.runs.specs.Calls.{Kind, regions}
+use Rattle.runs.specs.Calls.{Kind, regions, Outcome}
 use Rattle.runs.specs.States.{Cells, Row, pool, InPool}
 use Rattle.runs.specs.Effects.{Onward, Steps, no_place, finds, ends, goes_on}
 use Rattle.lookups.specs.Ways.{Walk, no_node, finds as walk_finds, onward, Waits, WillTell, GoingAt, FoundAt, AfterStep}
@@ -192,7 +191,7 @@ module _ {K F : Type 0} (kd : Kind K F) (Held : ℕ → Type 0) (Gave : Option (
   turn x = seek (regions kd) k x
 
   pub stepped :
-      (p n : ℕ) (a : Answer K F) (w : Row) → GoingAt Held Gave turn cs t p seen → Steps kd cs k n p a w → AfterStep Held Gave turn cs t p seen a w
+      (p n : ℕ) (a : Outcome K F) (w : Row) → GoingAt Held Gave turn cs t p seen → Steps kd cs k n p a w → AfterStep Held Gave turn cs t p seen a w
   stepped p n a w going no_place =
       (subst Gave (walk_ends cs turn going.out 0 (going.gone ++ going.ahead) refl going.walks) (given Held Gave turn cs t 0 seen going now), refl)
   stepped p n a w going (finds _ v i c h) = (

@@ -6,8 +6,7 @@ use Rattle.trees.specs.Trees.{Turn, Tree, inorder, path, found, seek}
 use Rattle.trees.specs.Edits.{Place, whole, Edit}
 use Rattle.trees.specs.Paths.{times, Distinct}
 use Rattle.trees.specs.Steps.{Stands, StepsWell}
-use Rattle.runs.specs.declared.call.Answer.{Answer}
-use Rattle.runs.specs.Calls.{Kind, regions}
+use Rattle.runs.specs.Calls.{Kind, regions, Outcome}
 use Rattle.runs.specs.States.{State, Cells, Row, pool, InPool, Spells, TreeAt}
 use Rattle.runs.specs.Effects.{Steps}
 use Rattle.lookups.specs.Ways.{Walk, KeptNode, Waits, HoldsOn, GoingAt, FoundAt, AfterStep}
@@ -74,7 +73,7 @@ module _ {K F : Type 0} (kd : Kind K F) where
   abbrev pub StepCarries : Type 0
   StepCarries =
       (held : ℕ → Bool) (gave : ℕ → Option (Region K)) (since now : ℕ) (k : K) (z : State (Cells K)) (p : Place ℕ (Region K)) (link : ℕ) (seen : List ℕ)
-      (n : ℕ) (a : Answer K F) (w : Row) →
+      (n : ℕ) (a : Outcome K F) (w : Row) →
       Moment gave now k z p → since ≤ now → Going held gave since now k z p link seen → Steps kd z.memory k n link a w →
       AfterStep (λ n. T (held n)) (Given gave since now) (seek (regions kd) k) z.memory (whole p) link seen a w
 

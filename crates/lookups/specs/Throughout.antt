@@ -7,9 +7,8 @@ use Rattle.trees.specs.Trees.{inorder}
 use Rattle.trees.specs.Edits.{Place, whole, Edit}
 use Rattle.trees.specs.Paths.{In}
 use Rattle.trees.specs.Steps.{Stands, StepsWell}
-use Rattle.runs.specs.declared.call.Call.{Call}
-use Rattle.runs.specs.declared.call.Answer.{Answer}
-use Rattle.runs.specs.Calls.{Kind, regions, edit_of, accepted}
+use Rattle.requests.specs.declared.call.Call.{Call}
+use Rattle.runs.specs.Calls.{Kind, regions, edit_of, accepted, Outcome}
 use Rattle.runs.specs.Histories.{First, Lookup, lookup, set_of}
 use Rattle.runs.specs.States.{State, Cells, row_of, pool, Free, TreeAt}
 use Rattle.runs.specs.Table.{Scene}
@@ -37,7 +36,7 @@ module _ {K F : Type 0} (kd : Kind K F) where
     pub well : StepsWell (regions kd) e p p'
     pub taken : (q : ℕ) → In q (whole p') → In q (whole p) ⊎ Free cs q
 
-  pub record CallKept (z : State (Cells K)) (ts : List (Turn (Cells K) K F)) (c : Call K) (a : Answer K F) (y : State (Cells K)) (p p' : Place ℕ (Region K)) : Type 0 where
+  pub record CallKept (z : State (Cells K)) (ts : List (Turn (Cells K) K F)) (c : Call K) (a : Outcome K F) (y : State (Cells K)) (p p' : Place ℕ (Region K)) : Type 0 where
     pub exact : Exact kd (scene_after z ts p) c a y p'
     pub steps : (e : Edit K (Region K)) → edit_of c ≡ Some e → accepted a ≡ true → TreeSteps (state z ts).memory e p p'
 

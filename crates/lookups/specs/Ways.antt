@@ -1,15 +1,15 @@
 -- Lookups that go through memory while edits go on: the walk that lies ahead of one, and what holds of one that is going.
-use Rattle.std.specs.Prelude.{◌≡◌, ℕ, ◌≤◌, ◌⊎◌, List, [], ◌∷◌, ◌++◌, Some, None, Option, nat_eq}
+use Rattle.std.specs.Prelude.{◌≡◌, ℕ, ◌≤◌, ◌⊎◌, List, [], ◌∷◌, ◌++◌, Some, None, Option, nat_eq, Ok, Err}
 use Rattle.store.specs.declared.node.Node.{Node}
 use Rattle.store.specs.declared.node.Region.{Region}
 use Rattle.store.specs.Cells.{readable, cell_at}
 use Rattle.store.specs.Nodes.{region_of}
 use Rattle.trees.specs.Trees.{Turn, here, Tree, path, found}
 use Rattle.trees.specs.Paths.{times, On, In}
-use Rattle.runs.specs.declared.call.Answer.{Answer}
-use Rattle.runs.specs.declared.call.Answer.TheVariants.{Pending, Opened, Closed, On as MovedOn, Nothing, Found, Nodes, Refused}
+use Rattle.runs.specs.declared.call.Answer.TheVariants.{Pending, Opened, Closed, On as MovedOn, Nothing, Found, Nodes}
 use Rattle.runs.specs.States.{Cells, Row}
 use Rattle.runs.specs.Effects.{Onward}
+use Rattle.runs.specs.Calls.{Outcome}
 
 -- THE WALK AHEAD: from the link p on, by the turn that is taken at each node, the nodes ns are visited, and out is what is told
 -- in the end: the region of the node where the walk ends, or none where it comes to no node.
@@ -83,12 +83,12 @@ pub record FoundAt {K : Type 0} (Held : ℕ → Type 0) (cs : Cells K) (t : Tree
 -- A GOING STEP at the link p: it finds a region, or ends with none, and what it tells was given at some moment; or it moves on, and the
 -- node at p is behind it. No other answer comes.
 abbrev pub AfterStep :
-    {K F : Type 0} → (ℕ → Type 0) → (Option (Region K) → Type 0) → (Region K → Turn) → Cells K → Tree ℕ (Region K) → ℕ → List ℕ → Answer K F → Row → Type 0
-AfterStep Held Gave turn cs t p seen (Found x n) w = Gave (Some x) × FoundAt Held cs t w.place x
-AfterStep Held Gave turn cs t p seen (Nothing n) w = Gave None × (w.place ≡ 0)
-AfterStep Held Gave turn cs t p seen (MovedOn n) w = GoingAt Held Gave turn cs t w.place (p ∷ seen)
-AfterStep Held Gave turn cs t p seen (Pending n) w = ⊥
-AfterStep Held Gave turn cs t p seen Opened w = ⊥
-AfterStep Held Gave turn cs t p seen Closed w = ⊥
-AfterStep Held Gave turn cs t p seen (Nodes a b c) w = ⊥
-AfterStep Held Gave turn cs t p seen (Refused r) w = ⊥
+    {K F : Type 0} → (ℕ → Type 0) → (Option (Region K) → Type 0) → (Region K → Turn) → Cells K → Tree ℕ (Region K) → ℕ → List ℕ → Outcome K F → Row → Type 0
+AfterStep Held Gave turn cs t p seen (Ok (Found x n)) w = Gave (Some x) × FoundAt Held cs t w.place x
+AfterStep Held Gave turn cs t p seen (Ok (Nothing n)) w = Gave None × (w.place ≡ 0)
+AfterStep Held Gave turn cs t p seen (Ok (MovedOn n)) w = GoingAt Held Gave turn cs t w.place (p ∷ seen)
+AfterStep Held Gave turn cs t p seen (Ok (Pending n)) w = ⊥
+AfterStep Held Gave turn cs t p seen (Ok Opened) w = ⊥
+AfterStep Held Gave turn cs t p seen (Ok Closed) w = ⊥
+AfterStep Held Gave turn cs t p seen (Ok (Nodes a b c)) w = ⊥
+AfterStep Held Gave turn cs t p seen (Err r) w = ⊥

@@ -1,5 +1,5 @@
 -- Refused calls and the calls of sessions keep the invariant, but for close.
-use Rattle.std.proofs.Common.{◌≡◌, ℕ, zero, suc, ◌<◌, ◌≤◌, Bool, true, false, cond, eqb, ◌⊎◌, List, ◌∷◌, length, get_or, set, Some, None, Option, sym, refl, ap, ◌∙◌, subst, inl, inr, arith, length-set, get_or-set_other, get_or-set_same, eq-eqb, ne_eqb}
+use Rattle.std.proofs.Common.{◌≡◌, ℕ, zero, suc, ◌<◌, ◌≤◌, Bool, true, false, cond, eqb, ◌⊎◌, List, ◌∷◌, length, get_or, set, Some, None, Option, sym, refl, ap, ◌∙◌, subst, inl, inr, arith, length-set, get_or-set_other, get_or-set_same, eq-eqb, ne_eqb, Ok, Err}
 use native.Mathlib.Decide.{dec_le}
 use borrow.Author.Tests.{lt-leb}
 use Rattle.store.specs.declared.node.Region.{Region}
@@ -9,13 +9,12 @@ use Rattle.store.specs.Nodes.{plain}
 use Rattle.trees.specs.Edits.{Place, whole, Edit}
 use Rattle.trees.specs.Paths.{In}
 use Rattle.runs.specs.declared.call.Argument.TheVariants.{Key}
-use Rattle.runs.specs.declared.call.Call.{Call}
-use Rattle.runs.specs.declared.call.Call.TheVariants.{Open, Step, Counts}
-use Rattle.runs.specs.declared.call.Answer.{Answer}
-use Rattle.runs.specs.declared.call.Answer.TheVariants.{Pending, Opened, Closed, On, Nothing, Found, Nodes, Refused}
+use Rattle.requests.specs.declared.call.Call.{Call}
+use Rattle.requests.specs.declared.call.Call.TheVariants.{Open, Step, Counts}
+use Rattle.runs.specs.declared.call.Answer.TheVariants.{Pending, Opened, Closed, On, Nothing, Found, Nodes}
 use Rattle.runs.specs.declared.call.Refusal.{Refusal}
 use Rattle.runs.specs.declared.call.Refusal.TheVariants.{NoSession, HasLookup}
-use Rattle.runs.specs.Calls.{Kind, edit_of, accepted}
+use Rattle.runs.specs.Calls.{Kind, edit_of, accepted, Outcome}
 use Rattle.runs.specs.Histories.{History, changed, set_of, last_told, to_do, First, Lookup, lookup, lookup_after, first_told, with_step, begun_by, open_since, seat_key, seat_after}
 use Rattle.runs.specs.States.{State, Cells, Row, row, closed, going, row_of}
 use Rattle.runs.specs.Table.{Fits, no_session, has_lookup}
@@ -30,22 +29,16 @@ use Rattle.moments.proofs.Quiet.{which, SessionAfter, quiet_keeps, rows_stay, ro
 
 -- HISTORIES after a call that is refused, or is no edit
 
-refused_told : {K F : Type 0} (a : Answer K F) (m : ℕ) → accepted a ≡ false → last_told a m ≡ m
-refused_told (Pending n) m e = absurd (let z : ◌≡◌ {A = ℕ} 0 1 = cc in let f : ⊥ = omega arith in f)
-refused_told Opened m e = refl
-refused_told Closed m e = refl
-refused_told (On n) m e = refl
-refused_told (Nothing n) m e = refl
-refused_told (Found x n) m e = refl
-refused_told (Nodes i j k) m e = refl
-refused_told (Refused r) m e = refl
+refused_told : {K F : Type 0} (a : Outcome K F) (m : ℕ) → accepted a ≡ false → last_told a m ≡ m
+refused_told (Ok b) m e = absurd (let z : ◌≡◌ {A = ℕ} 0 1 = cc in let f : ⊥ = omega arith in f)
+refused_told (Err r) m e = refl
 
 pub cond_same : {A : Type 0} (b : Bool) (x : A) → cond b x x ≡ x
 cond_same true x = refl
 cond_same false x = refl
 
 pub set_stays :
-    {K F : Type 0} (kd : Kind K F) (h : History K F) (c : Call K) (a : Answer K F) → edit_of c ≡ None →
+    {K F : Type 0} (kd : Kind K F) (h : History K F) (c : Call K) (a : Outcome K F) → edit_of c ≡ None →
     set_of kd (record { call = c; answer = a } ∷ h) ≡ set_of kd h
 set_stays kd h c a d =
     ap (λ (o : Option (Edit _ (Region _))). cond (accepted a) (changed kd o (set_of kd h)) (set_of kd h)) d ∙ cond_same (accepted a) (set_of kd h)
@@ -53,7 +46,7 @@ set_stays kd h c a d =
 -- STEPS and their rows
 
 again_fits :
-    {K F : Type 0} (m : ℕ) (a : Answer K F) (l : Lookup K) (f : First K) → l.first ≡ Some f → (w : Row) → RowFits (Some l) w →
+    {K F : Type 0} (m : ℕ) (a : Outcome K F) (l : Lookup K) (f : First K) → l.first ≡ Some f → (w : Row) → RowFits (Some l) w →
     RowFits (with_step m a (Some l)) w
 again_fits m a l f d w r =
     subst (λ (o : Option (First _)). RowOfOpen (record { key = l.key; since = l.since; steps = suc l.steps; first = first_told m a l.first }) (first_told m a o) w) (sym d)
@@ -67,14 +60,14 @@ module _ {K F : Type 0} (kd : Kind K F) where
       by_gave None = refl
       by_gave (Some w) = refl
 
-  steps_told : (cs : Cells K) (k : K) (n q : ℕ) (a : Answer K F) (w : Row) (m : ℕ) → Steps kd cs k n q a w → last_told a m ≡ m
+  steps_told : (cs : Cells K) (k : K) (n q : ℕ) (a : Outcome K F) (w : Row) (m : ℕ) → Steps kd cs k n q a w → last_told a m ≡ m
   steps_told cs k n q a w m no_place = refl
   steps_told cs k n q a w m (finds _ u i c d) = refl
   steps_told cs k n q a w m (ends _ u i c d) = refl
   steps_told cs k n q a w m (goes_on _ j u i c d e) = refl
 
   steps_row :
-      (m : ℕ) (cs : Cells K) (l b : Lookup K) (q : ℕ) (a : Answer K F) (w : Row) → b.steps ≡ suc l.steps → Steps kd cs l.key l.steps q a w →
+      (m : ℕ) (cs : Cells K) (l b : Lookup K) (q : ℕ) (a : Outcome K F) (w : Row) → b.steps ≡ suc l.steps → Steps kd cs l.key l.steps q a w →
       RowOfOpen b (first_told m a None) w
   steps_row m cs l b q a w e no_place = (refl, refl, refl)
   steps_row m cs l b q a w e (finds _ u i c d) = (refl, refl, i)
@@ -82,7 +75,7 @@ module _ {K F : Type 0} (kd : Kind K F) where
   steps_row m cs l b q a w e (goes_on _ j u i c d g) = (refl, sym e)
 
   steps_fit :
-      (m : ℕ) (cs : Cells K) (l : Lookup K) (q : ℕ) (a : Answer K F) (w : Row) → l.first ≡ None → Steps kd cs l.key l.steps q a w →
+      (m : ℕ) (cs : Cells K) (l : Lookup K) (q : ℕ) (a : Outcome K F) (w : Row) → l.first ≡ None → Steps kd cs l.key l.steps q a w →
       RowFits (with_step m a (Some l)) w
   steps_fit m cs l q a w d t =
       let b : Lookup K = record { key = l.key; since = l.since; steps = suc l.steps; first = first_told m a l.first } in
@@ -127,7 +120,7 @@ module _ {K F : Type 0} (kd : Kind K F) (z : State (Cells K)) (ts : List (Turn (
 
   -- REFUSED
 
-  refused : (c : Call K) (a : Answer K F) (y : State (Cells K)) → accepted a ≡ false → Exact kd (scene_at kd z ts p) c a y p →
+  refused : (c : Call K) (a : Outcome K F) (y : State (Cells K)) → accepted a ≡ false → Exact kd (scene_at kd z ts p) c a y p →
       length y.memory ≡ length x.memory → Inv kd z (turn c a y ∷ ts) p
   refused c a y out ex m =
       let u = ex.refused_alters out in
@@ -145,7 +138,7 @@ module _ {K F : Type 0} (kd : Kind K F) (z : State (Cells K)) (ts : List (Turn (
 
   -- COUNTS
 
-  counted : (a : Answer K F) (y : State (Cells K)) → accepted a ≡ true → Exact kd (scene_at kd z ts p) Counts a y p → FrameNone x y →
+  counted : (a : Outcome K F) (y : State (Cells K)) → accepted a ≡ true → Exact kd (scene_at kd z ts p) Counts a y p → FrameNone x y →
       Inv kd z (turn Counts a y ∷ ts) p
   counted a y ok ex fr =
       let d = (ex.accepted_does ok).answers in
@@ -158,11 +151,11 @@ module _ {K F : Type 0} (kd : Kind K F) (z : State (Cells K)) (ts : List (Turn (
       (λ s l.
       fr.cells (suc s) ∙ v.seats s l ∙
       ap (λ (k : K). readable (plain 3 k kd.filler)) (sym (cond_same (accepted a) (seat_key kd.filler s h)))))
-      (rows_stay kd z ts p Counts a y v same kept d.1 look) (set_stays kd h Counts a refl) (ap (λ (b : Answer K F). last_told b (to_do h)) d.0)
+      (rows_stay kd z ts p Counts a y v same kept d.1 look) (set_stays kd h Counts a refl) (ap (λ (b : Outcome K F). last_told b (to_do h)) d.0)
 
   -- OPEN
 
-  module _ (s : ℕ) (k : K) (a : Answer K F) (y : State (Cells K)) (ok : accepted a ≡ true) (ex : Exact kd (scene_at kd z ts p) (Open s k) a y p)
+  module _ (s : ℕ) (k : K) (a : Outcome K F) (y : State (Cells K)) (ok : accepted a ≡ true) (ex : Exact kd (scene_at kd z ts p) (Open s k) a y p)
       (fr : FrameOpen s k kd.filler x y) where
     abbrev opening : Turn (Cells K) K F
     opening = turn (Open s k) a y
@@ -269,11 +262,11 @@ module _ {K F : Type 0} (kd : Kind K F) (z : State (Cells K)) (ts : List (Turn (
         quiet_keeps kd z ts p (Open s k) a y v fr.same kept ex
         (pool_stays kd z ts p (Open s k) a y v fr.same kept open_fit (λ q i. inl (open_cells q i.past_seats)) open_since_same open_seats)
         (rows_change kd z ts p (Open s k) a y v fr.same kept s open_session) (set_stays kd h (Open s k) a refl)
-        (ap (λ (b : Answer K F). last_told b (to_do h)) (ex.accepted_does ok).answers.0)
+        (ap (λ (b : Outcome K F). last_told b (to_do h)) (ex.accepted_does ok).answers.0)
 
   -- STEP
 
-  module _ (s : ℕ) (a : Answer K F) (y : State (Cells K)) (ok : accepted a ≡ true) (ex : Exact kd (scene_at kd z ts p) (Step s) a y p)
+  module _ (s : ℕ) (a : Outcome K F) (y : State (Cells K)) (ok : accepted a ≡ true) (ex : Exact kd (scene_at kd z ts p) (Step s) a y p)
       (fr : FrameNone x y) where
     abbrev stepping : Turn (Cells K) K F
     stepping = turn (Step s) a y
@@ -303,7 +296,7 @@ module _ {K F : Type 0} (kd : Kind K F) (z : State (Cells K)) (ts : List (Turn (
     by_first l (Some f) e d t = record {
       was = l;
       is = e;
-      told = ap (λ (b : Answer K F). last_told b (to_do h)) t.0 ∙ again_told kd f (to_do h);
+      told = ap (λ (b : Outcome K F). last_told b (to_do h)) t.0 ∙ again_told kd f (to_do h);
       all_rows = ap length t.1 ∙ v.all_rows;
       other_rows = λ j n. ap (λ (ws : List Row). get_or ws j (row closed 0 0)) t.1;
       fits =

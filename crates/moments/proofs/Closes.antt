@@ -7,10 +7,9 @@ use Rattle.store.specs.Fits.{InRange}
 use Rattle.store.specs.Nodes.{plain}
 use Rattle.trees.specs.Edits.{Place, whole}
 use Rattle.trees.specs.Paths.{In}
-use Rattle.runs.specs.declared.call.Call.TheVariants.{Close}
-use Rattle.runs.specs.declared.call.Answer.{Answer}
+use Rattle.requests.specs.declared.call.Call.TheVariants.{Close}
 use Rattle.runs.specs.declared.call.Refusal.TheVariants.{NoLookup}
-use Rattle.runs.specs.Calls.{Kind, accepted}
+use Rattle.runs.specs.Calls.{Kind, accepted, Outcome}
 use Rattle.runs.specs.Histories.{History, last_told, to_do, Lookup, lookup, begun_by, open_since, seat_key, bits}
 use Rattle.runs.specs.States.{State, Cells, Row, row, closed, as_closed, row_of, waiting, InPool}
 use Rattle.runs.specs.Table.{no_lookup}
@@ -27,7 +26,7 @@ use Rattle.moments.proofs.Quiet.{which, SessionAfter, PoolAfter, pool_was, quiet
 use Rattle.moments.proofs.Calls.{cond_same, set_stays}
 
 module _ {K F : Type 0} (kd : Kind K F) (z : State (Cells K)) (ts : List (Turn (Cells K) K F)) (p : Place ℕ (Region K)) (v : Inv kd z ts p) (s : ℕ)
-    (a : Answer K F) (y : State (Cells K)) (ok : accepted a ≡ true) (ex : Exact kd (scene_at kd z ts p) (Close s) a y p)
+    (a : Outcome K F) (y : State (Cells K)) (ok : accepted a ≡ true) (ex : Exact kd (scene_at kd z ts p) (Close s) a y p)
     (fr : FrameClose s (state z ts) y) where
   abbrev x : State (Cells K)
   x = state z ts
@@ -196,7 +195,7 @@ module _ {K F : Type 0} (kd : Kind K F) (z : State (Cells K)) (ts : List (Turn (
   closed_keeps : Inv kd z us p
   closed_keeps =
       quiet_keeps kd z ts p (Close s) a y v fr.same kept ex pool_closed (rows_change kd z ts p (Close s) a y v fr.same kept s session_closed)
-      (set_stays kd h (Close s) a refl) (ap (λ (b : Answer K F). last_told b (to_do h)) (ex.accepted_does ok).answers.0)
+      (set_stays kd h (Close s) a refl) (ap (λ (b : Outcome K F). last_told b (to_do h)) (ex.accepted_does ok).answers.0)
 
 pub close_keeps : {K F : Type 0} (kd : Kind K F) → CloseKeeps kd
 close_keeps kd z ts p s a y v ok ex fr = closed_keeps kd z ts p v s a y ok ex fr

@@ -12,10 +12,9 @@ use Rattle.trees.specs.Edits.{Frame, frame, labels, Place, place, plug, whole, E
 use Rattle.trees.specs.Paths.{inside, In}
 use Rattle.trees.specs.Steps.{Accepted, InTurn, StepsWell}
 use Rattle.trees.proofs.Steps.{step, was_or_taken}
-use Rattle.runs.specs.declared.call.Call.{Call}
-use Rattle.runs.specs.declared.call.Call.TheVariants.{Put, Drop, Split, Advance, Open, Step, Close, Counts}
-use Rattle.runs.specs.declared.call.Answer.{Answer}
-use Rattle.runs.specs.Calls.{Kind, regions, edit_of, accepted}
+use Rattle.requests.specs.declared.call.Call.{Call}
+use Rattle.requests.specs.declared.call.Call.TheVariants.{Put, Drop, Split, Advance, Open, Step, Close, Counts}
+use Rattle.runs.specs.Calls.{Kind, regions, edit_of, accepted, Outcome}
 use Rattle.runs.specs.Histories.{History, changed, set_of, last_told, to_do, Lookup, lookup, lookup_after, begun_by, open_since, seat_key, seat_after, bits}
 use Rattle.runs.specs.States.{State, Cells, Row, row, closed, row_of, waiting, pool, InPool, Free, TreeAt}
 use Rattle.runs.specs.Table.{Scene}
@@ -46,7 +45,7 @@ module _ {K : Type 0} (e : Edit K (Region K)) where
   edit_seat s Counts k d = refl
 
 module _ {K F : Type 0} (e : Edit K (Region K)) where
-  edit_lookup : (s m : ℕ) (c : Call K) (a : Answer K F) (o : Option (Lookup K)) → edit_of c ≡ Some e → lookup_after s m c a o ≡ o
+  edit_lookup : (s m : ℕ) (c : Call K) (a : Outcome K F) (o : Option (Lookup K)) → edit_of c ≡ Some e → lookup_after s m c a o ≡ o
   edit_lookup s m (Put low high rows) a o d = refl
   edit_lookup s m (Drop k) a o d = refl
   edit_lookup s m (Split b i j) a o d = refl
@@ -57,7 +56,7 @@ module _ {K F : Type 0} (e : Edit K (Region K)) where
   edit_lookup s m Counts a o d = absurd (none_some e d)
 
   edit_answers :
-      (kd : Kind K F) (x : Scene K F) (c : Call K) (a : Answer K F) (rows : List Row) → edit_of c ≡ Some e → Answers kd x c a rows →
+      (kd : Kind K F) (x : Scene K F) (c : Call K) (a : Outcome K F) (rows : List Row) → edit_of c ≡ Some e → Answers kd x c a rows →
       EditAnswers kd x e a rows
   edit_answers kd x (Put low high n) a rows d h = subst (λ (o : Option (Edit K (Region K))). EditsAnswer kd x o a rows) d h
   edit_answers kd x (Drop k) a rows d h = subst (λ (o : Option (Edit K (Region K))). EditsAnswer kd x o a rows) d h
@@ -82,7 +81,7 @@ has_is None h = absurd (let z : ◌≡◌ {A = ℕ} 0 1 = cc in let f : ⊥ = om
 has_is (Some l) h = (l, refl)
 
 module _ {K F : Type 0} (kd : Kind K F) (laws : Laws (regions kd)) (z : State (Cells K)) (ts : List (Turn (Cells K) K F)) (p : Place ℕ (Region K))
-    (c : Call K) (e : Edit K (Region K)) (a : Answer K F) (y : State (Cells K)) (p' : Place ℕ (Region K)) (v : Inv kd z ts p) (d : edit_of c ≡ Some e)
+    (c : Call K) (e : Edit K (Region K)) (a : Outcome K F) (y : State (Cells K)) (p' : Place ℕ (Region K)) (v : Inv kd z ts p) (d : edit_of c ≡ Some e)
     (ok : accepted a ≡ true) (ex : Exact kd (scene_at kd z ts p) c a y p') where
   abbrev x : State (Cells K)
   x = state z ts
@@ -335,7 +334,7 @@ module _ {K F : Type 0} (kd : Kind K F) (laws : Laws (regions kd)) (z : State (C
       spells = well.spells ∙ ap (set_after (regions kd) e) v.spells ∙ sym set_is;
       room = let r = edit_taken.room in let m = same_pool in let n = ap length set_is in omega arith;
       told =
-          ap (λ (b : Answer K F). last_told b (to_do h)) done_answers.0 ∙ sym (ap length pending_is ∙ labels_length (edited (regions kd) e p).above);
+          ap (λ (b : Outcome K F). last_told b (to_do h)) done_answers.0 ∙ sym (ap length pending_is ∙ labels_length (edited (regions kd) e p).above);
       short = let a = short_after in let b = ap length pending_is in let m = labels_length (edited (regions kd) e p).above in omega arith;
       marks = marks_after;
       live = live_after;

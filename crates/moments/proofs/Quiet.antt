@@ -9,9 +9,8 @@ use Rattle.store.specs.Fits.{FitCells}
 use Rattle.store.specs.Nodes.{plain}
 use Rattle.trees.specs.Edits.{Place, whole}
 use Rattle.trees.specs.Paths.{In}
-use Rattle.runs.specs.declared.call.Call.{Call}
-use Rattle.runs.specs.declared.call.Answer.{Answer}
-use Rattle.runs.specs.Calls.{Kind}
+use Rattle.requests.specs.declared.call.Call.{Call}
+use Rattle.runs.specs.Calls.{Kind, Outcome}
 use Rattle.runs.specs.Histories.{History, set_of, to_do, Lookup, lookup, open_since, seat_key, bits}
 use Rattle.runs.specs.States.{State, Cells, Row, row, closed, row_of, InPool, Spells, TreeAt}
 use Rattle.runs.specs.Effects.{Exact}
@@ -44,7 +43,7 @@ module _ {K F : Type 0} (kd : Kind K F) where
 
 -- A call that leaves the tree. What it makes of the other nodes of the pool is said by the rest.
 
-module _ {K F : Type 0} (kd : Kind K F) (z : State (Cells K)) (ts : List (Turn (Cells K) K F)) (p : Place ℕ (Region K)) (c : Call K) (a : Answer K F)
+module _ {K F : Type 0} (kd : Kind K F) (z : State (Cells K)) (ts : List (Turn (Cells K) K F)) (p : Place ℕ (Region K)) (c : Call K) (a : Outcome K F)
     (y : State (Cells K)) (v : Inv kd z ts p) (same : SameTree (state z ts) y)
     (kept : (q : ℕ) → In q (whole p) → cell_at y.memory q ≡ cell_at (state z ts).memory q) where
   abbrev x : State (Cells K)

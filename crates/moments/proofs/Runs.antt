@@ -5,9 +5,8 @@ use Rattle.store.specs.declared.node.Region.{Region}
 use Rattle.trees.specs.Regions.{Laws}
 use Rattle.trees.specs.Trees.{leaf}
 use Rattle.trees.specs.Edits.{Place, place}
-use Rattle.runs.specs.declared.call.Call.{Call}
-use Rattle.runs.specs.declared.call.Answer.{Answer}
-use Rattle.runs.specs.Calls.{Kind, regions, accepted}
+use Rattle.requests.specs.declared.call.Call.{Call}
+use Rattle.runs.specs.Calls.{Kind, regions, accepted, Outcome}
 use Rattle.runs.specs.States.{State, Cells, meant, JustMade}
 use Rattle.runs.specs.Effects.{Exact}
 use Rattle.runs.specs.Runs.{Turn, turn, history, state, meant_turns, Run, making, calling}
@@ -66,11 +65,11 @@ state_meant f z [] = refl
 state_meant f z (t ∷ ts) = refl
 
 module _ {M K F : Type 0} (kd : Kind K F) (laws : Laws (regions kd)) (cells : M → Cells K) (fit : M → Type 0) (Makes : M → State M → Type 0)
-    (Does : State M → Call K → Answer K F → State M → Type 0) (lawful : (m : M) → fit m → FitCells (cells m))
+    (Does : State M → Call K → Outcome K F → State M → Type 0) (lawful : (m : M) → fit m → FitCells (cells m))
     (made : (m : M) (z : State M) → fit m → Makes m z → fit z.memory × JustMade kd.filler (meant cells z))
     (follow : (z : State (Cells K)) (ts : List (Turn (Cells K) K F)) (p : Place ℕ (Region K)) → ExactRun kd z ts p → LookupsKept kd z ts)
     (does :
-    (z : State (Cells K)) (ts : List (Turn (Cells K) K F)) (p : Place ℕ (Region K)) (x y : State M) (c : Call K) (a : Answer K F) →
+    (z : State (Cells K)) (ts : List (Turn (Cells K) K F)) (p : Place ℕ (Region K)) (x y : State M) (c : Call K) (a : Outcome K F) →
     ExactRun kd z ts p → meant cells x ≡ state z ts → fit x.memory → Does x c a y →
     fit y.memory × ((p' : Place ℕ (Region K)) × Exact kd (scene_at kd z ts p) c a (meant cells y) p' ×
     Framed (accepted a) kd.filler c (open_sessions (history ts)) (state z ts) (meant cells y) p p')) where

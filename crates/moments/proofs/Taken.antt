@@ -1,5 +1,5 @@
 -- What an accepted edit is: in its turn, with a region set that takes it, and with room for what it adds.
-use Rattle.std.proofs.Common.{◌≡◌, ℕ, zero, suc, ◌+◌, ◌-◌, ◌<◌, ◌≤◌, max, Bool, true, false, cond, T, List, [], ◌∷◌, ◌++◌, length, Some, None, Option, refl, ap, subst, arith, length-append}
+use Rattle.std.proofs.Common.{◌≡◌, ℕ, zero, suc, ◌+◌, ◌-◌, ◌<◌, ◌≤◌, max, Bool, true, false, cond, T, List, [], ◌∷◌, ◌++◌, length, Some, None, Option, refl, ap, subst, arith, length-append, Err}
 use native.Mathlib.Decide.{dec_le}
 use Rattle.store.specs.Nodes.{region}
 use Rattle.store.specs.declared.fault.StoreFault.{StoreFault}
@@ -10,14 +10,12 @@ use Rattle.trees.specs.Edits.{Frame, frame, Place, place, descend, advanced, Edi
 use Rattle.trees.specs.Steps.{Accepted, InTurn}
 use Rattle.runs.specs.declared.call.Argument.{Argument}
 use Rattle.runs.specs.declared.call.Argument.TheVariants.{Low, High, Key}
-use Rattle.runs.specs.declared.call.Call.{Call}
-use Rattle.runs.specs.declared.call.Call.TheVariants.{Put, Drop, Split, Advance, Open, Step, Close, Counts}
-use Rattle.runs.specs.declared.call.Answer.{Answer}
-use Rattle.runs.specs.declared.call.Answer.TheVariants.{Refused}
+use Rattle.requests.specs.declared.call.Call.{Call}
+use Rattle.requests.specs.declared.call.Call.TheVariants.{Put, Drop, Split, Advance, Open, Step, Close, Counts}
 use Rattle.runs.specs.declared.call.Doing.{Doing}
 use Rattle.runs.specs.declared.call.Refusal.{Refusal}
 use Rattle.runs.specs.declared.call.Refusal.TheVariants.{IllFormed, NotBelow, UnderWay, Overlaps, SameAsLow, Full, StoreRefused}
-use Rattle.runs.specs.Calls.{Kind, regions, lower_part, upper_part, edit_of, number_of, accepted}
+use Rattle.runs.specs.Calls.{Kind, regions, lower_part, upper_part, edit_of, number_of, accepted, Outcome}
 use Rattle.runs.specs.Histories.{set_of, to_do}
 use Rattle.runs.specs.States.{State, Cells, pool}
 use Rattle.runs.specs.Table.{Scene, begins_edit, adds_region, keys_of, or_fault, first_ill, Fits, size, no_session, has_lookup, no_lookup, ill_formed, not_below, under_way, at_rest, overlapping, no_region, same_as_low, full, few_free}
@@ -152,7 +150,7 @@ module _ {K F : Type 0} (kd : Kind K F) (x : Scene K F) where
     taken_edit c e d none = subst (TakenIf (pool x.state.memory - 96)) d (taken_call c none)
 
 pub none_fits :
-    {K F : Type 0} (kd : Kind K F) (x : Scene K F) (c : Call K) (a : Answer K F) (y : State (Cells K)) (p : Place ℕ (Region K)) →
+    {K F : Type 0} (kd : Kind K F) (x : Scene K F) (c : Call K) (a : Outcome K F) (y : State (Cells K)) (p : Place ℕ (Region K)) →
     Exact kd x c a y p → accepted a ≡ true → (r : Refusal F) → Fits kd x c r → ⊥
 none_fits kd x c a y p ex ok r f = let e = ex.refused_if r f in let z : ◌≡◌ {A = ℕ} 0 1 = cc in omega arith
 
@@ -173,6 +171,6 @@ no_line_14 kd x c r (full _ d h) e = omega arith
 no_line_14 kd x c r (few_free _ h) e = omega arith
 
 pub never_14 :
-    {K F : Type 0} (kd : Kind K F) (x : Scene K F) (c : Call K) (a : Answer K F) (y : State (Cells K)) (p : Place ℕ (Region K)) →
-    Exact kd x c a y p → (d : Doing) (f : StoreFault) → a ≡ Refused (StoreRefused d f) → ⊥
+    {K F : Type 0} (kd : Kind K F) (x : Scene K F) (c : Call K) (a : Outcome K F) (y : State (Cells K)) (p : Place ℕ (Region K)) →
+    Exact kd x c a y p → (d : Doing) (f : StoreFault) → a ≡ Err (StoreRefused d f) → ⊥
 never_14 kd x c a y p ex d f e = no_line_14 kd x c (StoreRefused d f) (ex.refused_by (StoreRefused d f) e).fits refl

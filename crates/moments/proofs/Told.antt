@@ -1,10 +1,9 @@
 -- What follows from a history: the lookups that are open, and the bits of their sessions.
 use Rattle.std.proofs.Common.{◌≡◌, ℕ, zero, suc, ◌+◌, ◌^◌, ◌<◌, ◌≤◌, Bool, true, false, cond, eqb, ◌⊎◌, List, [], ◌∷◌, length, Some, None, Option, sym, refl, ap, ◌∙◌, subst, inl, inr, arith, pow_pos, below_more, le-leb}
 use native.Mathlib.Decide.{dec_le}
-use Rattle.runs.specs.declared.call.Call.{Call}
-use Rattle.runs.specs.declared.call.Call.TheVariants.{Put, Drop, Split, Advance, Open, Step, Close, Counts}
-use Rattle.runs.specs.declared.call.Answer.{Answer}
-use Rattle.runs.specs.Calls.{accepted}
+use Rattle.requests.specs.declared.call.Call.{Call}
+use Rattle.requests.specs.declared.call.Call.TheVariants.{Put, Drop, Split, Advance, Open, Step, Close, Counts}
+use Rattle.runs.specs.Calls.{accepted, Outcome}
 use Rattle.runs.specs.Histories.{History, Lookup, lookup, lookup_after, with_step, begun_by, open_since, seat_key, seat_after, bits}
 use Rattle.runs.specs.Runs.{Turn, history}
 use Rattle.moments.specs.Invariant.{has_one}
@@ -34,12 +33,12 @@ module _ {K : Type 0} where
   opened m false k was o h = later m was o h
 
 module _ {K F : Type 0} where
-  stepped : (m : ℕ) (k : K) (a : Answer K F) (o : Option (Lookup K)) → Begun m k o → Begun (suc m) k (with_step (suc m) a o)
+  stepped : (m : ℕ) (k : K) (a : Outcome K F) (o : Option (Lookup K)) → Begun m k o → Begun (suc m) k (with_step (suc m) a o)
   stepped m k a None b = tt
   stepped m k a (Some l) b = let h = b.0 in (omega arith, b.1)
 
   called :
-      (s m : ℕ) (k : K) (c : Call K) (a : Answer K F) (o : Option (Lookup K)) → Begun m k o →
+      (s m : ℕ) (k : K) (c : Call K) (a : Outcome K F) (o : Option (Lookup K)) → Begun m k o →
       Begun (suc m) (seat_after s c k) (lookup_after s (suc m) c a o)
   called s m k (Put low high rows) a o h = later m k o h
   called s m k (Drop j) a o h = later m k o h

@@ -3,10 +3,9 @@ use Rattle.std.proofs.Common.{◌≡◌, ℕ, Bool, true, false, List, ◌∷◌
 use Rattle.store.specs.declared.node.Region.{Region}
 use Rattle.trees.specs.Regions.{Laws}
 use Rattle.trees.specs.Edits.{Place}
-use Rattle.runs.specs.declared.call.Call.{Call}
-use Rattle.runs.specs.declared.call.Call.TheVariants.{Put, Drop, Split, Advance, Open, Step, Close, Counts}
-use Rattle.runs.specs.declared.call.Answer.{Answer}
-use Rattle.runs.specs.Calls.{Kind, regions, accepted}
+use Rattle.requests.specs.declared.call.Call.{Call}
+use Rattle.requests.specs.declared.call.Call.TheVariants.{Put, Drop, Split, Advance, Open, Step, Close, Counts}
+use Rattle.runs.specs.Calls.{Kind, regions, accepted, Outcome}
 use Rattle.runs.specs.States.{State, Cells}
 use Rattle.runs.specs.Effects.{Exact}
 use Rattle.runs.specs.Runs.{Turn, turn, history, state}
@@ -17,7 +16,7 @@ use Rattle.moments.proofs.Calls.{open_keeps, step_keeps, counts_keep, refused_ke
 use Rattle.moments.proofs.Closes.{close_keeps}
 
 module _ {K F : Type 0} (kd : Kind K F) (laws : Laws (regions kd)) (z : State (Cells K)) (ts : List (Turn (Cells K) K F)) (p : Place ℕ (Region K))
-    (a : Answer K F) (y : State (Cells K)) (v : Inv kd z ts p) where
+    (a : Outcome K F) (y : State (Cells K)) (v : Inv kd z ts p) where
   -- a call that leaves the tree has the same place after it
   there :
       (c : Call K) (p' : Place ℕ (Region K)) → p' ≡ p → Exact kd (scene_at kd z ts p) c a y p' →

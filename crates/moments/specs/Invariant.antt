@@ -11,8 +11,8 @@ use Rattle.trees.specs.Trees.{Tree, leaf, inorder, height, Balanced}
 use Rattle.trees.specs.Edits.{Place, place, whole}
 use Rattle.trees.specs.Paths.{In, Distinct}
 use Rattle.trees.specs.Steps.{Stands}
-use Rattle.runs.specs.declared.call.Call.{Call}
-use Rattle.runs.specs.declared.call.Call.TheVariants.{Put, Drop, Split, Advance, Open, Step, Close, Counts}
+use Rattle.requests.specs.declared.call.Call.{Call}
+use Rattle.requests.specs.declared.call.Call.TheVariants.{Put, Drop, Split, Advance, Open, Step, Close, Counts}
 use Rattle.runs.specs.Calls.{Kind, regions, accepted}
 use Rattle.runs.specs.Histories.{History, set_of, to_do, First, Lookup, lookup, open_since, seat_key, bits}
 use Rattle.runs.specs.States.{State, Cells, Stage, Row, closed, going, answered, row_of, waiting, pool, InPool, live_nodes, waiting_nodes, free_nodes, TreeAt, JustMade}

@@ -1,5 +1,5 @@
 -- What is proved of the invariant, as statements for contracts.
-use Rattle.std.specs.Prelude.{◌≡◌, ℕ, suc, ◌+◌, ◌/◌, ◌%◌, ◌^◌, ◌<◌, ◌≤◌, Bool, true, false, ◌⊎◌, List, [], ◌∷◌, length, Some, None, bit_xor, nat_eq}
+use Rattle.std.specs.Prelude.{◌≡◌, ℕ, suc, ◌+◌, ◌/◌, ◌%◌, ◌^◌, ◌<◌, ◌≤◌, Bool, true, false, ◌⊎◌, List, [], ◌∷◌, length, Some, None, bit_xor, nat_eq, Err}
 use Rattle.store.specs.Cells.{readable, cell_at}
 use Rattle.store.specs.Fits.{FitCells}
 use Rattle.store.specs.Nodes.{plain}
@@ -8,11 +8,9 @@ use Rattle.trees.specs.Trees.{leaf}
 use Rattle.trees.specs.Edits.{Place, place, whole, Edit}
 use Rattle.trees.specs.Paths.{In}
 use Rattle.trees.specs.Steps.{StepsWell}
-use Rattle.runs.specs.declared.call.Call.{Call}
-use Rattle.runs.specs.declared.call.Call.TheVariants.{Open, Step, Close, Counts}
-use Rattle.runs.specs.declared.call.Answer.{Answer}
-use Rattle.runs.specs.Calls.{Kind, regions, edit_of, accepted}
-use Rattle.runs.specs.declared.call.Answer.TheVariants.{Refused}
+use Rattle.requests.specs.declared.call.Call.{Call}
+use Rattle.requests.specs.declared.call.Call.TheVariants.{Open, Step, Close, Counts}
+use Rattle.runs.specs.Calls.{Kind, regions, edit_of, accepted, Outcome}
 use Rattle.runs.specs.declared.call.Refusal.TheVariants.{FewFree}
 use Rattle.runs.specs.Histories.{set_of, Lookup, lookup, bits}
 use Rattle.runs.specs.States.{State, Cells, row_of, pool, waiting_nodes, free_nodes, Free, TreeAt, JustMade}
@@ -36,7 +34,7 @@ module _ {K F : Type 0} (kd : Kind K F) where
   -- an accepted put, drop, split or advance
   abbrev pub EditKeeps : Type 0
   EditKeeps =
-      (z : State (Cells K)) (ts : List (Turn (Cells K) K F)) (p : Place ℕ (Region K)) (c : Call K) (e : Edit K (Region K)) (a : Answer K F)
+      (z : State (Cells K)) (ts : List (Turn (Cells K) K F)) (p : Place ℕ (Region K)) (c : Call K) (e : Edit K (Region K)) (a : Outcome K F)
       (y : State (Cells K)) (p' : Place ℕ (Region K)) → Inv kd z ts p → edit_of c ≡ Some e → accepted a ≡ true →
       Exact kd (scene_at kd z ts p) c a y p' → TreeAt y p' → FrameEdit (state z ts) y (whole p) (whole p') (open_sessions (history ts)) →
       Inv kd z (turn c a y ∷ ts) p'
@@ -44,39 +42,39 @@ module _ {K F : Type 0} (kd : Kind K F) where
   -- an accepted open, step, close and counts
   abbrev pub OpenKeeps : Type 0
   OpenKeeps =
-      (z : State (Cells K)) (ts : List (Turn (Cells K) K F)) (p : Place ℕ (Region K)) (s : ℕ) (k : K) (a : Answer K F) (y : State (Cells K)) →
+      (z : State (Cells K)) (ts : List (Turn (Cells K) K F)) (p : Place ℕ (Region K)) (s : ℕ) (k : K) (a : Outcome K F) (y : State (Cells K)) →
       Inv kd z ts p → accepted a ≡ true → Exact kd (scene_at kd z ts p) (Open s k) a y p → FrameOpen s k kd.filler (state z ts) y →
       Inv kd z (turn (Open s k) a y ∷ ts) p
 
   abbrev pub StepKeeps : Type 0
   StepKeeps =
-      (z : State (Cells K)) (ts : List (Turn (Cells K) K F)) (p : Place ℕ (Region K)) (s : ℕ) (a : Answer K F) (y : State (Cells K)) →
+      (z : State (Cells K)) (ts : List (Turn (Cells K) K F)) (p : Place ℕ (Region K)) (s : ℕ) (a : Outcome K F) (y : State (Cells K)) →
       Inv kd z ts p → accepted a ≡ true → Exact kd (scene_at kd z ts p) (Step s) a y p → FrameNone (state z ts) y →
       Inv kd z (turn (Step s) a y ∷ ts) p
 
   abbrev pub CloseKeeps : Type 0
   CloseKeeps =
-      (z : State (Cells K)) (ts : List (Turn (Cells K) K F)) (p : Place ℕ (Region K)) (s : ℕ) (a : Answer K F) (y : State (Cells K)) →
+      (z : State (Cells K)) (ts : List (Turn (Cells K) K F)) (p : Place ℕ (Region K)) (s : ℕ) (a : Outcome K F) (y : State (Cells K)) →
       Inv kd z ts p → accepted a ≡ true → Exact kd (scene_at kd z ts p) (Close s) a y p → FrameClose s (state z ts) y →
       Inv kd z (turn (Close s) a y ∷ ts) p
 
   abbrev pub CountsKeep : Type 0
   CountsKeep =
-      (z : State (Cells K)) (ts : List (Turn (Cells K) K F)) (p : Place ℕ (Region K)) (a : Answer K F) (y : State (Cells K)) →
+      (z : State (Cells K)) (ts : List (Turn (Cells K) K F)) (p : Place ℕ (Region K)) (a : Outcome K F) (y : State (Cells K)) →
       Inv kd z ts p → accepted a ≡ true → Exact kd (scene_at kd z ts p) Counts a y p → FrameNone (state z ts) y →
       Inv kd z (turn Counts a y ∷ ts) p
 
   -- any call that is refused
   abbrev pub RefusedKeeps : Type 0
   RefusedKeeps =
-      (z : State (Cells K)) (ts : List (Turn (Cells K) K F)) (p : Place ℕ (Region K)) (c : Call K) (a : Answer K F) (y : State (Cells K)) →
+      (z : State (Cells K)) (ts : List (Turn (Cells K) K F)) (p : Place ℕ (Region K)) (c : Call K) (a : Outcome K F) (y : State (Cells K)) →
       Inv kd z ts p → accepted a ≡ false → Exact kd (scene_at kd z ts p) c a y p → length y.memory ≡ length (state z ts).memory →
       Inv kd z (turn c a y ∷ ts) p
 
   -- any call
   abbrev pub CallsKeep : Type 0
   CallsKeep =
-      (z : State (Cells K)) (ts : List (Turn (Cells K) K F)) (p : Place ℕ (Region K)) (c : Call K) (a : Answer K F) (y : State (Cells K))
+      (z : State (Cells K)) (ts : List (Turn (Cells K) K F)) (p : Place ℕ (Region K)) (c : Call K) (a : Outcome K F) (y : State (Cells K))
       (p' : Place ℕ (Region K)) → Inv kd z ts p → Exact kd (scene_at kd z ts p) c a y p' →
       Framed (accepted a) kd.filler c (open_sessions (history ts)) (state z ts) y p p' → Inv kd z (turn c a y ∷ ts) p'
 
@@ -97,7 +95,7 @@ module _ {K F : Type 0} (kd : Kind K F) where
   abbrev pub ThirteenOnlyWhileOpen : Type 0
   ThirteenOnlyWhileOpen =
       (z : State (Cells K)) (ts : List (Turn (Cells K) K F)) (p : Place ℕ (Region K)) (c : Call K) (y : State (Cells K)) (p' : Place ℕ (Region K)) →
-      Inv kd z ts p → Exact kd (scene_at kd z ts p) c (Refused FewFree) y p' → (s : ℕ) × (l : Lookup K) × (lookup s (history ts) ≡ Some l)
+      Inv kd z ts p → Exact kd (scene_at kd z ts p) c (Err FewFree) y p' → (s : ℕ) × (l : Lookup K) × (lookup s (history ts) ≡ Some l)
 
   -- SESSIONS
 
@@ -126,7 +124,7 @@ module _ {K F : Type 0} (kd : Kind K F) where
 
   abbrev pub EditSteps : Type 0
   EditSteps =
-      (z : State (Cells K)) (ts : List (Turn (Cells K) K F)) (p : Place ℕ (Region K)) (c : Call K) (e : Edit K (Region K)) (a : Answer K F)
+      (z : State (Cells K)) (ts : List (Turn (Cells K) K F)) (p : Place ℕ (Region K)) (c : Call K) (e : Edit K (Region K)) (a : Outcome K F)
       (y : State (Cells K)) (p' : Place ℕ (Region K)) → Inv kd z ts p → edit_of c ≡ Some e → accepted a ≡ true →
       Exact kd (scene_at kd z ts p) c a y p' → TreeGoesOn (state z ts).memory e p p'
 

@@ -8,120 +8,86 @@ ghost use Rattle.moments.specs.Theorems.{MadeInv, InvGives, EditKeeps, EditSteps
 use keys::Key;
 
 // A catalogue just made over a fit store has it.
-pub fn making_begins<K: Key>() -> u8
+pub fn making_begins<K: Key>()
     ensures { MadeInv (kind K.Ordered.fault K.Ordered.order K.Key.blank) }
-{
-    0
-}
+{}
 
 // It gives the promise, but for the last call's answer and what lookups answer.
-pub fn invariant_gives<K: Key>() -> u8
+pub fn invariant_gives<K: Key>()
     ensures { InvGives (kind K.Ordered.fault K.Ordered.order K.Key.blank) }
-{
-    0
-}
+{}
 
 // Accepted edits keep it.
-pub fn edits_keep<K: Key>() -> u8
+pub fn edits_keep<K: Key>()
     ensures { EditKeeps (kind K.Ordered.fault K.Ordered.order K.Key.blank) }
-{
-    0
-}
+{}
 
 // They take the tree on as the theory of trees says, and take no node but free ones.
-pub fn edits_step<K: Key>() -> u8
+pub fn edits_step<K: Key>()
     ensures { EditSteps (kind K.Ordered.fault K.Ordered.order K.Key.blank) }
-{
-    0
-}
+{}
 
 // An accepted open keeps it.
-pub fn opens_keep<K: Key>() -> u8
+pub fn opens_keep<K: Key>()
     ensures { OpenKeeps (kind K.Ordered.fault K.Ordered.order K.Key.blank) }
-{
-    0
-}
+{}
 
 // An accepted step keeps it.
-pub fn steps_keep<K: Key>() -> u8
+pub fn steps_keep<K: Key>()
     ensures { StepKeeps (kind K.Ordered.fault K.Ordered.order K.Key.blank) }
-{
-    0
-}
+{}
 
 // An accepted close keeps it.
-pub fn closes_keep<K: Key>() -> u8
+pub fn closes_keep<K: Key>()
     ensures { CloseKeeps (kind K.Ordered.fault K.Ordered.order K.Key.blank) }
-{
-    0
-}
+{}
 
 // So does counts.
-pub fn counts_keep<K: Key>() -> u8
+pub fn counts_keep<K: Key>()
     ensures { CountsKeep (kind K.Ordered.fault K.Ordered.order K.Key.blank) }
-{
-    0
-}
+{}
 
 // A refused call keeps it.
-pub fn refusals_keep<K: Key>() -> u8
+pub fn refusals_keep<K: Key>()
     ensures { RefusedKeeps (kind K.Ordered.fault K.Ordered.order K.Key.blank) }
-{
-    0
-}
+{}
 
 // Any call keeps it.
-pub fn calls_keep<K: Key>() -> u8
+pub fn calls_keep<K: Key>()
     ensures { CallsKeep (kind K.Ordered.fault K.Ordered.order K.Key.blank) }
-{
-    0
-}
+{}
 
 // Once every lookup is closed no node waits, and at least 96 are free.
-pub fn closing_frees<K: Key>() -> u8
+pub fn closing_frees<K: Key>()
     ensures { ClosingFrees (kind K.Ordered.fault K.Ordered.order K.Key.blank) }
-{
-    0
-}
+{}
 
 // So only while a lookup is open can a call be refused for want of free nodes.
-pub fn thirteen_only_while_open<K: Key>() -> u8
+pub fn thirteen_only_while_open<K: Key>()
     ensures { ThirteenOnlyWhileOpen (kind K.Ordered.fault K.Ordered.order K.Key.blank) }
-{
-    0
-}
+{}
 
 // The rows tell which sessions have a lookup.
-pub fn rows_tell<K: Key>() -> u8
+pub fn rows_tell<K: Key>()
     ensures { RowsTell (kind K.Ordered.fault K.Ordered.order K.Key.blank) }
-{
-    0
-}
+{}
 
 // The seat of an open lookup can be read, and has its key.
-pub fn lookups_seated<K: Key>() -> u8
+pub fn lookups_seated<K: Key>()
     ensures { OpenSeated (kind K.Ordered.fault K.Ordered.order K.Key.blank) }
-{
-    0
-}
+{}
 
 // A run of exact calls has it at its end.
-pub fn runs_keep<K: Key>() -> u8
+pub fn runs_keep<K: Key>()
     ensures { RunsKeep (kind K.Ordered.fault K.Ordered.order K.Key.blank) }
-{
-    0
-}
+{}
 
 // With true lookups the promise is whole there.
-pub fn promise_is_whole<K: Key>() -> u8
+pub fn promise_is_whole<K: Key>()
     ensures { KeptWhole (kind K.Ordered.fault K.Ordered.order K.Key.blank) }
-{
-    0
-}
+{}
 
 // A session's bit is told and taken away as the code does it.
-pub fn bits_lose() -> u8
+pub fn bits_lose()
     ensures { BitsLose }
-{
-    0
-}
+{}

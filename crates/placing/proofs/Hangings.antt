@@ -1,5 +1,5 @@
 -- A commit leaves the tree with one link changed.
-use Rattle.std.proofs.Common.{◌≡◌, ℕ, ◌+◌, ◌≤◌, true, false, T, eqb, ◌⊎◌, List, [], ◌∷◌, ◌++◌, map, length, sym, refl, ap, ◌∙◌, subst, inl, inr, arith}
+use Rattle.std.proofs.Common.{◌≡◌, ℕ, ◌+◌, ◌≤◌, true, false, T, eqb, ◌⊎◌, List, [], ◌∷◌, ◌++◌, map, length, sym, refl, ap, ◌∙◌, subst, inl, inr, arith, Some, None, Option}
 use Rattle.std.proofs.lemmas.Bool.{both_ways, cases_eq, cases_Bool, eq-eqb, ne_eqb, or_left, or_right}
 use Rattle.store.specs.declared.node.Node.{Node}
 use Rattle.store.specs.declared.node.Region.{Region}
@@ -17,7 +17,6 @@ use Rattle.drafts.specs.declared.link.Lean.TheVariants.{Right, Left}
 use Rattle.drafts.specs.Grown.{Grown}
 use Rattle.search.specs.Frees.{Chosen}
 use Rattle.commits.specs.declared.writes.Joint.{Joint}
-use Rattle.commits.specs.declared.writes.Joint.TheVariants.{Root, Under}
 use Rattle.commits.specs.Commits.{Writes, Placing, news, placed, with_link, hung, root_after, leaving, left_behind, committed}
 use Rattle.commits.proofs.Committing.{writes_length}
 use Rattle.runs.specs.States.{Cells, InPool, Free, Spells, member}
@@ -65,32 +64,32 @@ module _ {K : Type 0} where
 
   -- THE WRITES OF A COMMIT
 
-  committed_written : (m : ℕ) (j : Joint K) (p : Placing K) (sessions : ℕ) (gone : List (Numbered K)) → written m (committed j p sessions gone) ≡ written m p.writes + (written m (hung j p.top) + leaves m gone)
+  committed_written : (m : ℕ) (j : Option (Joint K)) (p : Placing K) (sessions : ℕ) (gone : List (Numbered K)) → written m (committed j p sessions gone) ≡ written m p.writes + (written m (hung j p.top) + leaves m gone)
   unfolding committed
   committed_written m j p sessions gone =
       let a = written_append m p.writes (hung j p.top ++ map (left_behind sessions) gone) in
       let b = written_append m (hung j p.top) (map (left_behind sessions) gone) in
       omega (arith, gone_written m sessions gone)
 
-  record Held (ds : Cells K) (j : Joint K) (p : Placing K) (sessions : ℕ) (gone : List (Numbered K)) : Type 0 where
+  record Held (ds : Cells K) (j : Option (Joint K)) (p : Placing K) (sessions : ℕ) (gone : List (Numbered K)) : Type 0 where
     pub placed_there : AllHeld ds p.writes
     pub hung_there : AllHeld ds (hung j p.top)
     pub left_there : AllHeld ds (map (left_behind sessions) gone)
 
-  committed_held : (ds : Cells K) (j : Joint K) (p : Placing K) (sessions : ℕ) (gone : List (Numbered K)) → AllHeld ds (committed j p sessions gone) → Held ds j p sessions gone
+  committed_held : (ds : Cells K) (j : Option (Joint K)) (p : Placing K) (sessions : ℕ) (gone : List (Numbered K)) → AllHeld ds (committed j p sessions gone) → Held ds j p sessions gone
   unfolding committed
   committed_held ds j p sessions gone h =
       let k = held_back ds p.writes _ h in
       record { placed_there = held_front ds p.writes _ h; hung_there = held_front ds (hung j p.top) _ k; left_there = held_back ds (hung j p.top) _ k }
 
-  hung_around : (cs : Cells K) (fs : List (Frame ℕ (Region K))) (j : Joint K) (k m : ℕ) → Joins cs fs j → written m (hung j k) ≤ around m fs
-  hung_around cs [] Root k m e = omega arith
-  hung_around cs [] (Under p l) k m e = absurd e
-  hung_around cs (frame s n x u ∷ fs) Root k m e = absurd e
-  hung_around cs (frame s n x u ∷ fs) (Under p l) k m e = rw e.0 (omega arith)
+  hung_around : (cs : Cells K) (fs : List (Frame ℕ (Region K))) (j : Option (Joint K)) (k m : ℕ) → Joins cs fs j → written m (hung j k) ≤ around m fs
+  hung_around cs [] None k m e = omega arith
+  hung_around cs [] (Some j) k m e = absurd e
+  hung_around cs (frame s n x u ∷ fs) None k m e = absurd e
+  hung_around cs (frame s n x u ∷ fs) (Some j) k m e = rw e.0 (omega arith)
 
   module _ (cs ds : Cells K) (pending : List ℕ) (root sessions : ℕ) (fs : List (Frame ℕ (Region K))) (s : Tree ℕ (Region K)) (g : Grown K)
-      (t : Tree Label (Region K)) (gone : List (Numbered K)) (j : Joint K) (ns : List ℕ)
+      (t : Tree Label (Region K)) (gone : List (Numbered K)) (j : Option (Joint K)) (ns : List ℕ)
       (d : Drafted cs pending root fs s g t gone) (joins : Joins cs fs j) (chosen : Chosen cs ns) (few : news g ≤ length ns)
       (w : Writes cs (committed j (placed g ns) sessions gone) ds) (free : ShutFree ds) where
     long : length ds ≡ length cs
@@ -209,9 +208,9 @@ module _ {K : Type 0} where
   link_size Right k v = refl
 
   module _ (cs ds : Cells K) (pending : List ℕ) (root sessions : ℕ) (sd : Side) (n : ℕ) (x : Region K) (u : Tree ℕ (Region K)) (fs : List (Frame ℕ (Region K)))
-      (s : Tree ℕ (Region K)) (g : Grown K) (t : Tree Label (Region K)) (gone : List (Numbered K)) (p : Numbered K) (l : Lean) (ns : List ℕ)
-      (d : Drafted cs pending root (frame sd n x u ∷ fs) s g t gone) (joins : Joins cs (frame sd n x u ∷ fs) (Under p l)) (chosen : Chosen cs ns) (few : news g ≤ length ns)
-      (w : Writes cs (committed (Under p l) (placed g ns) sessions gone) ds) (free : ShutFree ds) where
+      (s : Tree ℕ (Region K)) (g : Grown K) (t : Tree Label (Region K)) (gone : List (Numbered K)) (j : Joint K) (ns : List ℕ)
+      (d : Drafted cs pending root (frame sd n x u ∷ fs) s g t gone) (joins : Joins cs (frame sd n x u ∷ fs) (Some j)) (chosen : Chosen cs ns) (few : news g ≤ length ns)
+      (w : Writes cs (committed (Some j) (placed g ns) sessions gone) ds) (free : ShutFree ds) where
     abbrev path : List (Frame ℕ (Region K))
     path = frame sd n x u ∷ fs
 
@@ -220,8 +219,8 @@ module _ {K : Type 0} where
 
     is_above : (m : ℕ) → 1 ≤ around m path → (m ≡ n → ⊥) → Rests m
     is_above m h far =
-        above cs ds pending root sessions path s g t gone (Under p l) ns d joins chosen few w free m h
-        (omega (arith, none_other m p.number (λ e. far (e ∙ joins.0))))
+        above cs ds pending root sessions path s g t gone (Some j) ns d joins chosen few w free m h
+        (omega (arith, none_other m j.above.number (λ e. far (e ∙ joins.0))))
 
     beyond : (m : ℕ) → (inside (eqb m) u + around m fs ≡ 0) ⊎ Rests m
     beyond m = by_some (some_or_none (inside (eqb m) u + around m fs))
@@ -229,16 +228,16 @@ module _ {K : Type 0} where
         by_some : (inside (eqb m) u + around m fs ≡ 0) ⊎ (1 ≤ inside (eqb m) u + around m fs) → (inside (eqb m) u + around m fs ≡ 0) ⊎ Rests m
         by_some (inl z) = inl z
         by_some (inr h) =
-            let a = was cs ds pending root sessions path s g t gone (Under p l) ns d joins chosen few w free m in
+            let a = was cs ds pending root sessions path s g t gone (Some j) ns d joins chosen few w free m in
             inr (is_above m (omega arith) (λ e. omega (arith, one_same m n e)))
 
     cell : (v : Node K) → cell_at cs n ≡ readable v → cell_at ds n ≡ readable (with_link (lean_of sd) (placed g ns).top v)
     cell v c =
         let k = (placed g ns).top in
-        let h = (held cs ds pending root sessions path s g t gone (Under p l) ns d joins chosen few w free).hung_there.0 in
-        let a = subst (λ (i : ℕ). Holds ds i (with_link l k p.node)) joins.0 h in
-        let b = subst (λ (i : Lean). Holds ds n (with_link i k p.node)) joins.1 a in
-        let e = subst (λ (i : Node K). Holds ds n (with_link (lean_of sd) k i)) (same_node p.node v (cell_at cs n) joins.2 c) b in
+        let h = (held cs ds pending root sessions path s g t gone (Some j) ns d joins chosen few w free).hung_there.0 in
+        let a = subst (λ (i : ℕ). Holds ds i (with_link j.side k j.above.node)) joins.0 h in
+        let b = subst (λ (i : Lean). Holds ds n (with_link i k j.above.node)) joins.1 a in
+        let e = subst (λ (i : Node K). Holds ds n (with_link (lean_of sd) k i)) (same_node j.above.node v (cell_at cs n) joins.2 c) b in
         holds_readable ds n (with_link (lean_of sd) k v) free
         (λ z. omega (
           arith,
@@ -262,10 +261,10 @@ module _ {K : Type 0} where
     under : CommittedWell cs ds root sessions path s t gone
     under =
         let long = writes_length cs ds _ w in
-        let new-tree = put cs ds pending root sessions path s g t gone (Under p l) ns d joins chosen few w free in
+        let new-tree = put cs ds pending root sessions path s g t gone (Some j) ns d joins chosen few w free in
         let u' = new-tree.tree in
         let on : member n (labels path) ≡ true = or_left (eqb n n) (member n (labels fs)) (eq-eqb n n refl) in
-        well cs ds pending root sessions path s g t gone (Under p l) ns d joins chosen few w free
+        well cs ds pending root sessions path s g t gone (Some j) ns d joins chosen few w free
         (over_path cs ds long pending (labels path) fs (beside sd n s x u) (beside sd n u' x u) (λ m e. or_right (eqb m n) (member m (labels fs)) e)
         (λ m. fewer _ _ (omega arith) (beyond m))
         (led cs ds long pending (labels path) sd n x u s u' (placed g ns).top cell on (λ m. fewer _ _ (omega arith) (beyond m))
@@ -275,15 +274,15 @@ module _ {K : Type 0} where
 
   pub commit_spells :
       (cs ds : Cells K) (pending : List ℕ) (root sessions : ℕ) (fs : List (Frame ℕ (Region K))) (s : Tree ℕ (Region K)) (g : Grown K)
-      (t : Tree Label (Region K)) (gone : List (Numbered K)) (j : Joint K) (ns : List ℕ) →
+      (t : Tree Label (Region K)) (gone : List (Numbered K)) (j : Option (Joint K)) (ns : List ℕ) →
       Drafted cs pending root fs s g t gone → Joins cs fs j → Chosen cs ns → news g ≤ length ns →
       Writes cs (committed j (placed g ns) sessions gone) ds → ShutFree ds →
       CommittedWell cs ds (root_after j (placed g ns).top root) sessions fs s t gone
-  commit_spells cs ds pending root sessions [] s g t gone Root ns d joins chosen few w free =
-      well cs ds pending root sessions [] s g t gone Root ns d joins chosen few w free
-      (put cs ds pending root sessions [] s g t gone Root ns d joins chosen few w free).spelled
+  commit_spells cs ds pending root sessions [] s g t gone None ns d joins chosen few w free =
+      well cs ds pending root sessions [] s g t gone None ns d joins chosen few w free
+      (put cs ds pending root sessions [] s g t gone None ns d joins chosen few w free).spelled
       (λ n v v' on c c'. absurd on)
-  commit_spells cs ds pending root sessions [] s g t gone (Under p l) ns d joins chosen few w free = absurd joins
-  commit_spells cs ds pending root sessions (frame sd n x u ∷ fs) s g t gone Root ns d joins chosen few w free = absurd joins
-  commit_spells cs ds pending root sessions (frame sd n x u ∷ fs) s g t gone (Under p l) ns d joins chosen few w free =
-      under cs ds pending root sessions sd n x u fs s g t gone p l ns d joins chosen few w free
+  commit_spells cs ds pending root sessions [] s g t gone (Some j) ns d joins chosen few w free = absurd joins
+  commit_spells cs ds pending root sessions (frame sd n x u ∷ fs) s g t gone None ns d joins chosen few w free = absurd joins
+  commit_spells cs ds pending root sessions (frame sd n x u ∷ fs) s g t gone (Some j) ns d joins chosen few w free =
+      under cs ds pending root sessions sd n x u fs s g t gone j ns d joins chosen few w free

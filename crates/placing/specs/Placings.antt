@@ -1,5 +1,5 @@
 -- What is said of the memory after some writes.
-use Rattle.std.specs.Prelude.{◌≡◌, ℕ, ◌+◌, ◌≤◌, false, T, ◌⊎◌, List, [], ◌∷◌, length, ◌≢◌, nat_eq}
+use Rattle.std.specs.Prelude.{◌≡◌, ℕ, ◌+◌, ◌≤◌, false, T, ◌⊎◌, List, [], ◌∷◌, length, Some, None, Option, ◌≢◌, nat_eq}
 use Rattle.store.specs.declared.node.Node.{Node}
 use Rattle.store.specs.declared.node.Region.{Region}
 use Rattle.store.specs.Faults.{outside}
@@ -14,7 +14,6 @@ use Rattle.drafts.specs.declared.link.Lean.{Lean}
 use Rattle.drafts.specs.declared.link.Lean.TheVariants.{Right, Left}
 use Rattle.drafts.specs.Grown.{Grown}
 use Rattle.commits.specs.declared.writes.Joint.{Joint}
-use Rattle.commits.specs.declared.writes.Joint.TheVariants.{Root, Under}
 use Rattle.commits.specs.Commits.{leaving}
 use Rattle.runs.specs.States.{Cells, Free, Spells, member}
 use Rattle.runs.specs.Teeth.{Among}
@@ -56,11 +55,11 @@ module _ {K : Type 0} where
   -- ONE LINK CHANGED
 
   -- where a tree is hung: at the root link, or at the link of the lowest node above it, that node as it can be read
-  abbrev pub Joins : Cells K → List (Frame ℕ (Region K)) → Joint K → Type 0
-  Joins cs [] Root = Unit {0}
-  Joins cs [] (Under p l) = ⊥
-  Joins cs (frame s n x u ∷ fs) Root = ⊥
-  Joins cs (frame s n x u ∷ fs) (Under p l) = (p.number ≡ n) × (l ≡ lean_of s) × (cell_at cs n ≡ readable p.node)
+  abbrev pub Joins : Cells K → List (Frame ℕ (Region K)) → Option (Joint K) → Type 0
+  Joins cs [] None = Unit {0}
+  Joins cs [] (Some j) = ⊥
+  Joins cs (frame s n x u ∷ fs) None = ⊥
+  Joins cs (frame s n x u ∷ fs) (Some j) = (j.above.number ≡ n) × (j.side ≡ lean_of s) × (cell_at cs n ≡ readable j.above.node)
 
   -- Before a commit: the tree in memory, with fs above the link that is to change and s under it. The nodes that are pending are
   -- above that link or under it. What takes the place of s stands for t; the nodes that t keeps and those that leave are the nodes of s.

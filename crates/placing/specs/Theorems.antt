@@ -1,5 +1,5 @@
 -- What is proved of the writes of an edit, as statements for contracts.
-use Rattle.std.specs.Prelude.{◌≡◌, ℕ, ◌≤◌, List, [], ◌∷◌, length, nat_eq}
+use Rattle.std.specs.Prelude.{◌≡◌, ℕ, ◌≤◌, List, [], ◌∷◌, length, nat_eq, Option}
 use Rattle.store.specs.declared.node.Node.{Node}
 use Rattle.store.specs.declared.node.Region.{Region}
 use Rattle.store.specs.Cells.{readable, cell_at, mark_of}
@@ -34,7 +34,7 @@ module _ (K : Type 0) where
   abbrev pub CommitSpells : Type 0
   CommitSpells =
       (cs ds : Cells K) (pending : List ℕ) (root sessions : ℕ) (fs : List (Frame ℕ (Region K))) (s : Tree ℕ (Region K)) (g : Grown K)
-      (t : Tree Label (Region K)) (gone : List (Numbered K)) (j : Joint K) (ns : List ℕ) →
+      (t : Tree Label (Region K)) (gone : List (Numbered K)) (j : Option (Joint K)) (ns : List ℕ) →
       Drafted cs pending root fs s g t gone → Joins cs fs j → Chosen cs ns → news g ≤ length ns →
       Writes cs (committed j (placed g ns) sessions gone) ds → ShutFree ds →
       CommittedWell cs ds (root_after j (placed g ns).top root) sessions fs s t gone

@@ -5,36 +5,26 @@
 ghost use Rattle.placing.specs.Theorems.{WritesReadBack, PlacesSpell, CommitSpells, ResizeSpells, WaitingStays};
 
 // What stands in the cells after some writes.
-pub fn writes_read_back<K>() -> u8
+pub fn writes_read_back<K>()
     ensures { WritesReadBack K }
-{
-    0
-}
+{}
 
 // A grown tree that was put into the store spells the tree that it stands for.
-pub fn places_spell<K>() -> u8
+pub fn places_spell<K>()
     ensures { PlacesSpell K }
-{
-    0
-}
+{}
 
 // A commit leaves the tree with one link changed, the nodes above it pending.
-pub fn commit_spells<K>() -> u8
+pub fn commit_spells<K>()
     ensures { CommitSpells K }
-{
-    0
-}
+{}
 
 // Setting the size of the lowest pending node leaves the tree, that node pending no more.
-pub fn resize_spells<K>() -> u8
+pub fn resize_spells<K>()
     ensures { ResizeSpells K }
-{
-    0
-}
+{}
 
 // A node that waits after a commit is as it was, but for its mark, its waits and a size that was set.
-pub fn waiting_stays<K>() -> u8
+pub fn waiting_stays<K>()
     ensures { WaitingStays K }
-{
-    0
-}
+{}

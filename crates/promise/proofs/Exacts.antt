@@ -10,12 +10,11 @@ use Rattle.search.specs.Frees.{Chosen}
 use Rattle.commits.specs.Commits.{Writes, GoneInside}
 use Rattle.edits.specs.declared.fault.Refusal.{Refusal as EditRefusal}
 use Rattle.edits.specs.Calls.{Within, Change, Ends}
-use Rattle.runs.specs.declared.call.Call.{Call}
-use Rattle.runs.specs.declared.call.Call.TheVariants.{Put, Drop, Split, Advance, Open, Step, Close, Counts}
+use Rattle.requests.specs.declared.call.Call.{Call}
+use Rattle.requests.specs.declared.call.Call.TheVariants.{Put, Drop, Split, Advance, Open, Step, Close, Counts}
 use Rattle.runs.specs.declared.call.Refusal.{Refusal}
-use Rattle.runs.specs.declared.call.Answer.{Answer}
-use Rattle.runs.specs.declared.call.Answer.TheVariants.{Pending, Refused}
-use Rattle.runs.specs.Calls.{Kind}
+use Rattle.runs.specs.declared.call.Answer.TheVariants.{Pending}
+use Rattle.runs.specs.Calls.{Kind, Outcome}
 use Rattle.runs.specs.States.{State, Cells}
 use Rattle.runs.specs.Table.{FirstLine}
 use Rattle.runs.specs.Runs.{Turn, state}
@@ -38,7 +37,7 @@ module _ {K F : Type 0} (kd : Kind K F) (parts : Parts kd) (z : State (Cells K))
     -- refused by the table, with nothing changed
     edit_refused :
         (ns : List ℕ) (e : EditRefusal) → told ns ≡ Err e → y.memory ≡ (state z ts).memory → y.root ≡ (state z ts).root →
-        y.pending ≡ (state z ts).pending → y.rows ≡ (state z ts).rows → CallExact kd z ts p c (Refused (edit_refusal e)) y
+        y.pending ≡ (state z ts).pending → y.rows ≡ (state z ts).rows → CallExact kd z ts p c (Err (edit_refusal e)) y
     edit_refused ns e t m o l w = record {
       after = p;
       exact = record {
@@ -54,7 +53,7 @@ module _ {K F : Type 0} (kd : Kind K F) (parts : Parts kd) (z : State (Cells K))
     edit_done :
         (ns : List ℕ) (ch : Change K) → told ns ≡ Ok ch → Chosen (state z ts).memory ns → GoneInside (length (state z ts).memory) ch.writes → Writes (state z ts).memory ch.writes y.memory →
         y.root ≡ ch.root → y.pending ≡ reverse ch.path → y.rows ≡ (state z ts).rows → FitCells y.memory →
-        CallExact kd z ts p c (Pending (length ch.path)) y
+        CallExact kd z ts p c (Ok (Pending (length ch.path))) y
     edit_done ns ch t n k m o l w f =
         let d = parts.as_made z ts p c told ns ch y inv is none n t k m o l w f in
         record {
@@ -68,7 +67,7 @@ module _ {K F : Type 0} (kd : Kind K F) (parts : Parts kd) (z : State (Cells K))
           framed = d.framed;
         }
 
-    edit_exact : (a : Answer K F) → EditDoes kd told (state z ts) a y → FitCells y.memory → CallExact kd z ts p c a y
+    edit_exact : (a : Outcome K F) → EditDoes kd told (state z ts) a y → FitCells y.memory → CallExact kd z ts p c a y
     edit_exact a d f = by_told (told d.edits.edits.numbers) refl d.edits.edits.ends
       where
         by_told :
@@ -76,15 +75,15 @@ module _ {K F : Type 0} (kd : Kind K F) (parts : Parts kd) (z : State (Cells K))
             Ends (state z ts).memory y.memory (reverse (state z ts).pending) (reverse y.pending) (state z ts).root y.root d.result r →
             CallExact kd z ts p c a y
         by_told (Err e) t h =
-            subst (λ (b : Answer K F). CallExact kd z ts p c b y) (sym (d.answers ∙ ap edit_answer h.0))
+            subst (λ (b : Outcome K F). CallExact kd z ts p c b y) (sym (d.answers ∙ ap edit_answer h.0))
             (edit_refused d.edits.edits.numbers e t h.3 h.2 (same_reversed y.pending (state z ts).pending h.1) d.rows)
         by_told (Ok ch) t h =
-            subst (λ (b : Answer K F). CallExact kd z ts p c b y) (sym (d.answers ∙ ap edit_answer h.0))
+            subst (λ (b : Outcome K F). CallExact kd z ts p c b y) (sym (d.answers ∙ ap edit_answer h.0))
             (edit_done d.edits.edits.numbers ch t d.edits.edits.chosen (subst (Within (length (state z ts).memory)) t d.edits.inside) h.3 h.2 (sym (reverse-reverse y.pending) ∙ ap reverse h.1) d.rows f)
 
   module _ (kept : LookupsKept kd z ts) where
     acts_exact :
-        (c : Call K) (a : Answer K F) (y : State (Cells K)) → asked kd (state z ts) c ≡ None → Acts kd c (state z ts) a y → FitCells y.memory →
+        (c : Call K) (a : Outcome K F) (y : State (Cells K)) → asked kd (state z ts) c ≡ None → Acts kd c (state z ts) a y → FitCells y.memory →
         CallExact kd z ts p c a y
     acts_exact (Put low high rows) a y n d f = edit_exact (Put low high rows) y (put_of kd (state z ts) (region low high rows)) refl n a d f
     acts_exact (Drop k) a y n d f = edit_exact (Drop k) y (drop_of kd (state z ts) k) refl n a d f
@@ -95,14 +94,14 @@ module _ {K F : Type 0} (kd : Kind K F) (parts : Parts kd) (z : State (Cells K))
     acts_exact (Close s) a y n d f = parts.acts z ts p (Close s) a y inv kept refl n d f
     acts_exact Counts a y n d f = parts.acts z ts p Counts a y inv kept refl n d f
 
-    call_exact : (c : Call K) (a : Answer K F) (y : State (Cells K)) → DoesCells kd (state z ts) c a y → FitCells y.memory → CallExact kd z ts p c a y
+    call_exact : (c : Call K) (a : Outcome K F) (y : State (Cells K)) → DoesCells kd (state z ts) c a y → FitCells y.memory → CallExact kd z ts p c a y
     call_exact c a y d f = by_asked (asked kd (state z ts) c) refl d
       where
         by_asked : (o : Option (Refusal F)) → asked kd (state z ts) c ≡ o → DoesBy kd o c (state z ts) a y → CallExact kd z ts p c a y
         by_asked None n h = acts_exact c a y n h f
         by_asked (Some r) n h =
-            subst (λ (b : Answer K F). CallExact kd z ts p c b y) (sym h.0)
-            (subst (CallExact kd z ts p c (Refused r)) (sym h.1) (parts.asked z ts p c r inv n))
+            subst (λ (b : Outcome K F). CallExact kd z ts p c b y) (sym h.0)
+            (subst (CallExact kd z ts p c (Err r)) (sym h.1) (parts.asked z ts p c r inv n))
 
 pub calls_exact : {K F : Type 0} (kd : Kind K F) → CallsExact kd
 calls_exact kd parts z ts p c a y inv kept d f = call_exact kd parts z ts p inv kept c a y d f

@@ -7,10 +7,14 @@ use Rattle.store.specs.Cells.{shut, readable, cell_at}
 use Rattle.store.specs.Fits.{InRange, FitCells}
 use Rattle.sessions.specs.Writings.{nothing_written, CellAfter, Rewritten}
 use Rattle.sessions.specs.Making.{can_make, made_mark, every_node}
-use Rattle.sessions.proofs.Sweeping.{within, next_cell}
+use Rattle.sessions.proofs.Sweeping.{inside}
 use Rattle.runs.specs.Calls.{Kind}
 use Rattle.runs.specs.States.{Cells, Fresh, AllFresh, fresh_seats}
 use Rattle.promise.specs.Theorems.{MakingWell}
+
+-- the node after the first i
+next_cell : {K : Type 0} (cs : Cells K) (i : ℕ) → cell_at cs (i + 1) ≡ get_or cs i (shut 0)
+next_cell cs i = ap (λ j. get_or cs j (shut 0)) (omega arith)
 
 -- whether a catalogue can be made of N nodes
 pub in_range_made : (N : ℕ) → InRange N → can_make N ≡ true
@@ -49,14 +53,14 @@ module _ {K : Type 0} (filler : K) where
     same_cells : Rewritten nothing_written cs ds → ds ≡ cs
     same_cells r = ext_get_or (shut 0) ds cs r.count (λ i h.
         let e = r.count in
-        sym (next_cell ds i) ∙ r.each (i + 1) (within i (length cs) (omega arith)) ∙ next_cell cs i)
+        sym (next_cell ds i) ∙ r.each (i + 1) (inside (i + 1) (length cs) (omega arith) (omega arith)) ∙ next_cell cs i)
 
     module _ (r : Rewritten (every_node filler) cs ds) where
       each_at : (i : ℕ) → i < length ds → CellAfter (Some (plain (made_mark (i + 1)) filler filler)) (cell_at cs (i + 1)) (get_or ds i (shut 0))
       each_at i h =
           let e = r.count in
           subst (CellAfter (Some (plain (made_mark (i + 1)) filler filler)) (cell_at cs (i + 1))) (next_cell ds i)
-          (r.each (i + 1) (within i (length cs) (omega arith)))
+          (r.each (i + 1) (inside (i + 1) (length cs) (omega arith) (omega arith)))
 
       seat_cell : FitCells ds → (i : ℕ) → i < 32 → i < length ds → get_or ds i (shut 0) ≡ readable (plain 3 filler filler)
       seat_cell f i s h = by_cell (subst (λ m. CellAfter (Some (plain m filler filler)) (cell_at cs (i + 1)) (get_or ds i (shut 0))) e (each_at i h))

@@ -4,11 +4,10 @@ use Rattle.store.specs.Fits.{InRange, FitCells}
 use Rattle.store.specs.declared.node.Region.{Region}
 use Rattle.trees.specs.Regions.{Laws}
 use Rattle.trees.specs.Edits.{Place}
-use Rattle.runs.specs.declared.call.Call.{Call}
-use Rattle.runs.specs.declared.call.Answer.{Answer}
+use Rattle.requests.specs.declared.call.Call.{Call}
 use Rattle.runs.specs.declared.call.Refusal.{Refusal}
 use Rattle.runs.specs.declared.call.Refusal.TheVariants.{BadSize}
-use Rattle.runs.specs.Calls.{Kind, regions, accepted}
+use Rattle.runs.specs.Calls.{Kind, regions, accepted, Outcome}
 use Rattle.runs.specs.States.{State, Cells, meant, JustMade}
 use Rattle.runs.specs.Effects.{Exact}
 use Rattle.runs.specs.Runs.{Turn, history, state}
@@ -33,7 +32,7 @@ module _ {M K F : Type 0} (kd : Kind K F) (laws : Laws (regions kd)) (parts : Pa
       (g, (making_well kd (cells m) (meant cells z) mk.makes).made (lawful m f) (lawful z.memory g))
 
   does :
-      (z : State (Cells K)) (ts : List (Turn (Cells K) K F)) (p : Place ℕ (Region K)) (x y : State M) (c : Call K) (a : Answer K F) →
+      (z : State (Cells K)) (ts : List (Turn (Cells K) K F)) (p : Place ℕ (Region K)) (x y : State M) (c : Call K) (a : Outcome K F) →
       ExactRun kd z ts p → meant cells x ≡ state z ts → fit x.memory → Does kd cells fit x c a y →
       fit y.memory × ((p' : Place ℕ (Region K)) × Exact kd (scene_at kd z ts p) c a (meant cells y) p' ×
       Framed (accepted a) kd.filler c (open_sessions (history ts)) (state z ts) (meant cells y) p p')

@@ -3,9 +3,8 @@ use Rattle.std.specs.Prelude.{◌≡◌, ℕ, List, length}
 use Rattle.store.specs.declared.node.Region.{Region}
 use Rattle.store.specs.Fits.{InRange, FitCells}
 use Rattle.trees.specs.Edits.{Place}
-use Rattle.runs.specs.declared.call.Call.{Call}
-use Rattle.runs.specs.declared.call.Answer.{Answer}
-use Rattle.runs.specs.Calls.{Kind}
+use Rattle.requests.specs.declared.call.Call.{Call}
+use Rattle.runs.specs.Calls.{Kind, Outcome}
 use Rattle.runs.specs.States.{State, Cells, JustMade}
 use Rattle.runs.specs.Runs.{Turn, state}
 use Rattle.runs.specs.Promise.{Promise}
@@ -33,7 +32,7 @@ module _ {K F : Type 0} (kd : Kind K F) where
   -- EVERY CALL IS EXACT, if its parts are
   abbrev pub CallsExact : Type 0
   CallsExact =
-      Parts → (z : State (Cells K)) (ts : List (Turn (Cells K) K F)) (p : Place ℕ (Region K)) (c : Call K) (a : Answer K F) (y : State (Cells K)) →
+      Parts → (z : State (Cells K)) (ts : List (Turn (Cells K) K F)) (p : Place ℕ (Region K)) (c : Call K) (a : Outcome K F) (y : State (Cells K)) →
       Inv kd z ts p → LookupsKept kd z ts → DoesCells kd (state z ts) c a y → FitCells y.memory → CallExact kd z ts p c a y
 
   -- THE PROMISE, over memories of which the fit ones mean fit cells

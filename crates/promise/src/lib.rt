@@ -10,29 +10,21 @@ use keys::Key;
 use store::Store;
 
 // The making over a fit store leaves a catalogue just made; where there are too few nodes or too many, it writes nothing.
-pub fn making_is_just_made<K: Key>() -> u8
+pub fn making_is_just_made<K: Key>()
     ensures { MakingWell (kind K.Ordered.fault K.Ordered.order K.Key.blank) }
-{
-    0
-}
+{}
 
 // Every call is exact and leaves every cell as it may, if what it asks first, the calls of sessions and the edits are shown to be.
-pub fn call_is_exact<K: Key>() -> u8
+pub fn call_is_exact<K: Key>()
     ensures { CallsExact (kind K.Ordered.fault K.Ordered.order K.Key.blank) }
-{
-    0
-}
+{}
 
 // The promise over every run, from those parts: over cells themselves.
-pub fn runs_keep_promise<K: Key>() -> u8
+pub fn runs_keep_promise<K: Key>()
     ensures { Parts (kind K.Ordered.fault K.Ordered.order K.Key.blank) → Promised (kind K.Ordered.fault K.Ordered.order K.Key.blank) (λ cs. cs) FitCells }
-{
-    0
-}
+{}
 
 // And over any store.
-pub fn stores_keep_promise<S: Store>() -> u8
+pub fn stores_keep_promise<S: Store>()
     ensures { Parts (kind S.Key.fault S.Key.order S.Key.blank) → Promised (kind S.Key.fault S.Key.order S.Key.blank) S.Store.cells S.Store.fit }
-{
-    0
-}
+{}

@@ -6,8 +6,8 @@ use Rattle.trees.specs.Trees.{Tree, leaf, node, count, seek}
 use Rattle.trees.specs.Rotations.{too_heavy}
 use Rattle.trees.specs.Edits.{Frame, frame, Place, standing, descend, whole}
 use Rattle.store.specs.declared.node.Region.{Region}
-use Rattle.runs.specs.declared.call.Call.{Call}
-use Rattle.runs.specs.declared.call.Call.TheVariants.{Put, Drop, Split, Advance, Open, Step, Close, Counts}
+use Rattle.requests.specs.declared.call.Call.{Call}
+use Rattle.requests.specs.declared.call.Call.TheVariants.{Put, Drop, Split, Advance, Open, Step, Close, Counts}
 use Rattle.runs.specs.declared.call.Refusal.{Refusal}
 use Rattle.runs.specs.Calls.{Kind, regions}
 use Rattle.runs.specs.Histories.{History, open_since}

@@ -1,5 +1,5 @@
 -- The pending nodes of a state say where its edit is, but for the side of the lowest, which does not matter.
-use Rattle.std.proofs.Common.{◌≡◌, ℕ, zero, suc, ◌+◌, ◌≤◌, Bool, true, false, cond, T, eqb, List, [], ◌∷◌, length, sym, refl, ap, ◌∙◌, subst, add_comm, arith, eq-eqb}
+use Rattle.std.proofs.Common.{◌≡◌, ℕ, zero, suc, ◌+◌, ◌≤◌, Bool, true, false, cond, T, eqb, List, [], ◌∷◌, length, sym, refl, ap, ◌∙◌, subst, add_comm, arith, eq-eqb, Ok}
 use mathlib.Core.Bool.{or_comm}
 use Rattle.store.specs.Cells.{readable}
 use Rattle.trees.specs.Trees.{Side, left, right, Tree, leaf, node, beside, count, seek}
@@ -7,13 +7,12 @@ use Rattle.trees.specs.Rotations.{too_heavy}
 use Rattle.trees.specs.Edits.{Frame, frame, labels, Place, place, plug, whole, descend, standing, advanced, Made}
 use Rattle.trees.specs.Paths.{inside, Distinct}
 use Rattle.store.specs.declared.node.Region.{Region}
-use Rattle.runs.specs.declared.call.Call.{Call}
-use Rattle.runs.specs.declared.call.Call.TheVariants.{Put, Drop, Split, Advance, Open, Step, Close, Counts}
-use Rattle.runs.specs.declared.call.Answer.{Answer}
+use Rattle.requests.specs.declared.call.Call.{Call}
+use Rattle.requests.specs.declared.call.Call.TheVariants.{Put, Drop, Split, Advance, Open, Step, Close, Counts}
 use Rattle.runs.specs.declared.call.Answer.TheVariants.{Pending}
 use Rattle.runs.specs.declared.call.Refusal.{Refusal}
 use Rattle.runs.specs.declared.call.Refusal.TheVariants.{UnderWay}
-use Rattle.runs.specs.Calls.{Kind, regions, accepted}
+use Rattle.runs.specs.Calls.{Kind, regions, accepted, Outcome}
 use Rattle.runs.specs.Histories.{to_do}
 use Rattle.runs.specs.States.{State, Cells, waiting, TreeAt}
 use Rattle.runs.specs.Table.{Scene, begins_edit, both_sides, rotates, free_needed, Fits, size, no_session, has_lookup, no_lookup, ill_formed, not_below, under_way, at_rest, overlapping, no_region, same_as_low, full, few_free}
@@ -154,7 +153,7 @@ no_frames [] e = refl
 no_frames (frame s o x u ∷ fs) e = absurd (let f : ⊥ = omega arith in f)
 
 -- an accepted call that begins an edit finds the catalogue at rest
-module _ {K F : Type 0} (kd : Kind K F) (x : Scene K F) (p q : Place ℕ (Region K)) (c : Call K) (a : Answer K F) (y : State (Cells K)) (w : Place ℕ (Region K))
+module _ {K F : Type 0} (kd : Kind K F) (x : Scene K F) (p q : Place ℕ (Region K)) (c : Call K) (a : Outcome K F) (y : State (Cells K)) (w : Place ℕ (Region K))
     (tp : TreeAt x.state p) (tq : TreeAt x.state q) (d : Distinct (whole p)) (told : to_do x.past ≡ length x.state.pending) where
   one_whole : whole p ≡ whole q
   one_whole = same_tree x.state.memory x.state.pending x.state.root x.state.root (whole p) (whole q) refl tp.spelled tq.spelled
@@ -207,7 +206,7 @@ module _ {K F : Type 0} (kd : Kind K F) (x : Scene K F) (p q : Place ℕ (Region
   done_same (Drop k) e z = subst (λ (v : Place ℕ (Region K)). Done kd (at_place x v) (Drop k) a y w) (e tt) z
   done_same (Split b m n) e z = subst (λ (v : Place ℕ (Region K)). Done kd (at_place x v) (Split b m n) a y w) (e tt) z
   done_same Advance e z = record {
-    answers = (z.answers.0 ∙ ap (λ (m : Made (Region K)). Pending (length m.above)) agreed.made, z.answers.1);
+    answers = (z.answers.0 ∙ ap (λ (m : Made (Region K)). Ok (Pending (length m.above))) agreed.made, z.answers.1);
     tree_made = subst (λ (m : Made (Region K)). NumberedAs kd x.state.memory m w) agreed.made z.tree_made;
     pending_made = z.pending_made ∙ ap (λ (m : Made (Region K)). labels m.above) agreed.made;
     size_kept = z.size_kept;

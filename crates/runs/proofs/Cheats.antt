@@ -1,5 +1,5 @@
 -- Cheats do not meet the promise.
-use Rattle.std.proofs.Common.{◌≡◌, ℕ, suc, ◌≤◌, Bool, true, false, cond, T, ◌⊎◌, List, [], ◌∷◌, length, Some, None, Option, sym, refl, ap, ◌∙◌, subst, inl, inr, not-suc-le-zero, arith}
+use Rattle.std.proofs.Common.{◌≡◌, ℕ, suc, ◌≤◌, Bool, true, false, cond, T, ◌⊎◌, List, [], ◌∷◌, length, Some, None, Option, sym, refl, ap, ◌∙◌, subst, inl, inr, not-suc-le-zero, arith, Ok, Err}
 use Rattle.std.specs.declared.convert.Infallible.{Infallible}
 use Rattle.keys.specs.declared.whole.Whole.{Whole}
 use Rattle.store.specs.declared.node.Node.{Node}
@@ -10,15 +10,14 @@ use Rattle.trees.specs.Trees.{Tree, leaf, node, inorder, seek}
 use Rattle.trees.specs.Edits.{Frame, frame, place, whole, labels}
 use Rattle.store.specs.Nodes.{region, region_of}
 use Rattle.store.specs.declared.node.Region.{Region}
-use Rattle.runs.specs.declared.call.Call.{Call}
-use Rattle.runs.specs.declared.call.Call.TheVariants.{Put, Drop}
-use Rattle.runs.specs.declared.call.Answer.{Answer}
-use Rattle.runs.specs.declared.call.Answer.TheVariants.{Pending, Opened, Closed, On, Nothing, Found, Nodes, Refused}
+use Rattle.requests.specs.declared.call.Call.{Call}
+use Rattle.requests.specs.declared.call.Call.TheVariants.{Put, Drop}
+use Rattle.runs.specs.declared.call.Answer.TheVariants.{Pending, Opened, Closed, On, Nothing, Found, Nodes}
 use Rattle.runs.specs.declared.call.Argument.{Argument}
 use Rattle.runs.specs.declared.call.Argument.TheVariants.{Low, High}
 use Rattle.runs.specs.declared.call.Refusal.{Refusal}
 use Rattle.runs.specs.declared.call.Refusal.TheVariants.{NoRegion, FewFree}
-use Rattle.runs.specs.Calls.{Kind, regions, accepted}
+use Rattle.runs.specs.Calls.{Kind, regions, accepted, Outcome}
 use Rattle.runs.specs.Histories.{First, Lookup, lookup, set_of, last_told}
 use Rattle.runs.specs.States.{State, Cells, Row, row_of, live_nodes, waiting_nodes, free_nodes, member, Spells, TreeAt, JustMade}
 use Rattle.runs.specs.Table.{Scene, Fits, or_fault, free_needed, size, no_session, no_lookup, ill_formed, not_below, under_way, overlapping, no_region, full, few_free}
@@ -71,14 +70,14 @@ module _ {K F : Type 0} (kd : Kind K F) where
 
   -- STEPS
 
-  steps_counted : (cs : Cells K) (k : K) (n p : ℕ) (a : Answer K F) (w : Row) → Steps kd cs k n p a w → steps_told a ≡ Some (suc n)
+  steps_counted : (cs : Cells K) (k : K) (n p : ℕ) (a : Outcome K F) (w : Row) → Steps kd cs k n p a w → steps_told a ≡ Some (suc n)
   steps_counted cs k n p a w no_place = refl
   steps_counted cs k n p a w (finds _ v h c o) = refl
   steps_counted cs k n p a w (ends _ v h c o) = refl
   steps_counted cs k n p a w (goes_on _ q v h c o i) = refl
 
   none_compared :
-      (cs : Cells K) (k : K) (n p : ℕ) (a : Answer K F) (w : Row) (m : ℕ) → Steps kd cs k n p a w → a ≡ Nothing m → 1 ≤ p →
+      (cs : Cells K) (k : K) (n p : ℕ) (a : Outcome K F) (w : Row) (m : ℕ) → Steps kd cs k n p a w → a ≡ Ok (Nothing m) → 1 ≤ p →
       (v : Node K) × (cell_at cs p ≡ readable v) × Onward (seek (regions kd) k (region_of v)) v 0
   none_compared cs k n p a w m no_place e h = absurd (let f : ⊥ = omega arith in f)
   none_compared cs k n p a w m (finds _ v i c o) e h = absurd (let z : ◌≡◌ {A = ℕ} 0 1 = cc in let f : ⊥ = omega arith in f)
@@ -87,7 +86,7 @@ module _ {K F : Type 0} (kd : Kind K F) where
 
   -- what an accepted step of a lookup that is not answered tells
   going_step :
-      (z : State (Cells K)) (s : ℕ) (l : Lookup K) (o : Option (Lookup K)) (a : Answer K F) (rows : List Row) → o ≡ Some l → l.first ≡ None →
+      (z : State (Cells K)) (s : ℕ) (l : Lookup K) (o : Option (Lookup K)) (a : Outcome K F) (rows : List Row) → o ≡ Some l → l.first ≡ None →
       StepAnswers kd z s o a rows → (w : Row) × Steps kd z.memory l.key l.steps (row_of z s).place a w
   going_step z s l None a rows e f h = absurd h
   going_step z s l (Some j) a rows e f h =
@@ -101,15 +100,9 @@ module _ {K F : Type 0} (kd : Kind K F) where
   -- WHAT THE FIRST CALLS ANSWER
 
   -- an answer is accepted or a refusal
-  either : (a : Answer K F) → (accepted a ≡ true) ⊎ ((r : Refusal F) × (a ≡ Refused r))
-  either (Pending n) = inl refl
-  either Opened = inl refl
-  either Closed = inl refl
-  either (On n) = inl refl
-  either (Nothing n) = inl refl
-  either (Found x n) = inl refl
-  either (Nodes a b c) = inl refl
-  either (Refused r) = inr (r, refl)
+  either : (a : Outcome K F) → (accepted a ≡ true) ⊎ ((r : Refusal F) × (a ≡ Err r))
+  either (Ok b) = inl refl
+  either (Err r) = inr (r, refl)
 
   abbrev pub first_scene : State (Cells K) → Scene K F
   first_scene z = record { past = []; state = z; place = place [] leaf }
@@ -155,7 +148,7 @@ module _ {K F : Type 0} (kd : Kind K F) where
 
   -- fewer than what the call needs, which is 96 at most, and 1 for a put
   pub few_are_free :
-      (z y : State (Cells K)) (ts : List (Turn (Cells K) K F)) (c : Call K) → Kept kd z ts → Kept kd z (turn c (Refused FewFree) y ∷ ts) →
+      (z y : State (Cells K)) (ts : List (Turn (Cells K) K F)) (c : Call K) → Kept kd z ts → Kept kd z (turn c (Err FewFree) y ∷ ts) →
       FewAreFree kd 96 1 c (free_nodes (state z ts).memory)
   few_are_free z y ts c k k' =
       let h = line_13 kd _ c FewFree ((k'.exact k.place k.tree_stands).refused_by FewFree refl).fits refl in
@@ -170,8 +163,8 @@ module _ {K F : Type 0} (kd : Kind K F) where
 
   not_compared : NoneIsCompared kd
   not_compared z y ts s n l k e f h k' =
-      let w = going_step (state z ts) s l (lookup s (history ts)) (Nothing n) y.rows e f ((k'.exact k.place k.tree_stands).accepted_does refl).answers in
-      none_compared (state z ts).memory l.key l.steps (row_of (state z ts) s).place (Nothing n) w.0 n w.1 refl h
+      let w = going_step (state z ts) s l (lookup s (history ts)) (Ok (Nothing n)) y.rows e f ((k'.exact k.place k.tree_stands).accepted_does refl).answers in
+      none_compared (state z ts).memory l.key l.steps (row_of (state z ts) s).place (Ok (Nothing n)) w.0 n w.1 refl h
 
   invented_steps : StepsAreCounted kd
   invented_steps z y ts s a l k e f t k' =
@@ -236,5 +229,5 @@ second_put z y y' n k k' =
       path_pending = k.tree_stands.path_pending ∙ ap labels none;
     } in
     let h = ((k'.exact (place [] (node one.0 leaf (span 10 20 5) leaf)) start).accepted_does refl).answers.0 in
-    let P : Answer Whole Infallible → ℕ = λ a. last_told a 0 in
+    let P : Outcome Whole Infallible → ℕ = λ a. last_told a 0 in
     ap P h

@@ -1,5 +1,5 @@
 -- What a call does, under a renaming of nodes.
-use Rattle.std.proofs.Common.{◌≡◌, ℕ, suc, T, List, [], ◌∷◌, map, length, get_or, set, Some, None, Option, sym, refl, ap, ◌∙◌, subst, inl, inr, arith}
+use Rattle.std.proofs.Common.{◌≡◌, ℕ, suc, T, List, [], ◌∷◌, map, length, get_or, set, Some, None, Option, sym, refl, ap, ◌∙◌, subst, inl, inr, arith, Ok}
 use lib.ListN.{get_or-map}
 use lib.Seq.{map-set}
 use Rattle.store.specs.declared.node.Node.{Node}
@@ -10,12 +10,11 @@ use Rattle.trees.specs.Edits.{Frame, frame, labels, Place, Edit, Made, edited}
 use Rattle.trees.specs.Paths.{MadeAs, new_at}
 use Rattle.store.specs.Nodes.{region_of}
 use Rattle.store.specs.declared.node.Region.{Region}
-use Rattle.runs.specs.declared.call.Call.{Call}
-use Rattle.runs.specs.declared.call.Call.TheVariants.{Put, Drop, Split, Advance, Open, Step, Close, Counts}
-use Rattle.runs.specs.declared.call.Answer.{Answer}
+use Rattle.requests.specs.declared.call.Call.{Call}
+use Rattle.requests.specs.declared.call.Call.TheVariants.{Put, Drop, Split, Advance, Open, Step, Close, Counts}
 use Rattle.runs.specs.declared.call.Answer.TheVariants.{Pending}
 use Rattle.runs.specs.declared.call.Refusal.{Refusal}
-use Rattle.runs.specs.Calls.{Kind, regions, edit_of}
+use Rattle.runs.specs.Calls.{Kind, regions, edit_of, Outcome}
 use Rattle.runs.specs.Histories.{History, First, Lookup, lookup}
 use Rattle.runs.specs.States.{State, Cells, Row, row, closed, going, as_closed, row_of, member, waiting, Free}
 use Rattle.runs.specs.Table.{Scene, Fits, FirstLine}
@@ -35,7 +34,7 @@ onward_to f to_right v q h = ap f h
 
 module _ {K F : Type 0} (kd : Kind K F) {N : ℕ} (ρ : Renaming N) (x y : State (Cells K)) (r : Renamed ρ x y) where
   steps_to :
-      (k : K) (n p : ℕ) (a : Answer K F) (w : Row) → Steps kd x.memory k n p a w → Steps kd y.memory k n (ρ.to p) a (renamed_row ρ.to w)
+      (k : K) (n p : ℕ) (a : Outcome K F) (w : Row) → Steps kd x.memory k n p a w → Steps kd y.memory k n (ρ.to p) a (renamed_row ρ.to w)
   steps_to k n p a w no_place =
       subst (λ (q : ℕ). Steps kd y.memory k n q a (row w.stage q w.steps)) (sym (to_zero ρ)) no_place
   steps_to k n p a w (finds _ v h c o) = finds (ρ.to p) (renamed_node ρ.to v) (to_past ρ p 0 (omega arith) h) (read_to ρ x y r p v c) o
@@ -66,7 +65,7 @@ module _ {K F : Type 0} (kd : Kind K F) {N : ℕ} (ρ : Renaming N) (x y : State
   kept_rows ws e = ap rows_as e ∙ sym r.rows
 
   step_tells_to :
-      (s : ℕ) (l : Lookup K) (o : Option (First K)) (a : Answer K F) (ws : List Row) → StepTells kd x s l o a ws → StepTells kd y s l o a (rows_as ws)
+      (s : ℕ) (l : Lookup K) (o : Option (First K)) (a : Outcome K F) (ws : List Row) → StepTells kd x s l o a ws → StepTells kd y s l o a (rows_as ws)
   step_tells_to s l (Some f) a ws h = (h.0, kept_rows ws h.1)
   step_tells_to s l None a ws h = (
     renamed_row ρ.to h.0,
@@ -76,7 +75,7 @@ module _ {K F : Type 0} (kd : Kind K F) {N : ℕ} (ρ : Renaming N) (x y : State
   )
 
   step_answers_to :
-      (s : ℕ) (o : Option (Lookup K)) (a : Answer K F) (ws : List Row) → StepAnswers kd x s o a ws → StepAnswers kd y s o a (rows_as ws)
+      (s : ℕ) (o : Option (Lookup K)) (a : Outcome K F) (ws : List Row) → StepAnswers kd x s o a ws → StepAnswers kd y s o a (rows_as ws)
   step_answers_to s None a ws h = h
   step_answers_to s (Some l) a ws h = step_tells_to s l l.first a ws h
 
@@ -115,11 +114,11 @@ module _ {K F : Type 0} (kd : Kind K F) {N : ℕ} (ρ : Renaming N) (x y : State
   pending_same e = ap (λ (m : Made (Region K)). length m.above) (edits_rename (regions kd) ρ.to e p) ∙ path_length ρ.to (edited (regions kd) e p).above
 
   edit_answers_to :
-      (o : Option (Edit K (Region K))) (a : Answer K F) (ws : List Row) → EditsAnswer kd before o a ws → EditsAnswer kd after o a (rows_as kd ρ x y r ws)
+      (o : Option (Edit K (Region K))) (a : Outcome K F) (ws : List Row) → EditsAnswer kd before o a ws → EditsAnswer kd after o a (rows_as kd ρ x y r ws)
   edit_answers_to None a ws e = e
-  edit_answers_to (Some e) a ws d = (d.0 ∙ ap Pending (sym (pending_same e)), kept_rows kd ρ x y r ws d.1)
+  edit_answers_to (Some e) a ws d = (d.0 ∙ ap (λ (n : ℕ). Ok (Pending n)) (sym (pending_same e)), kept_rows kd ρ x y r ws d.1)
 
-  answers_to : (c : Call K) (a : Answer K F) (ws : List Row) → Answers kd before c a ws → Answers kd after c a (rows_as kd ρ x y r ws)
+  answers_to : (c : Call K) (a : Outcome K F) (ws : List Row) → Answers kd before c a ws → Answers kd after c a (rows_as kd ρ x y r ws)
   answers_to (Put low high n) a ws d = edit_answers_to (edit_of (Put low high n)) a ws d
   answers_to (Drop k) a ws d = edit_answers_to (edit_of (Drop k)) a ws d
   answers_to (Split b m n) a ws d = edit_answers_to (edit_of (Split b m n)) a ws d
@@ -178,7 +177,7 @@ module _ {K F : Type 0} (kd : Kind K F) {N : ℕ} (ρ : Renaming N) (x y : State
   first_line_to c e l = record { fits = fits_to kd ρ x y r h p c e l.fits; smallest = λ e' f. l.smallest e' (fits_back c e' f) }
 
   -- x' and y' are the states after the call
-  module _ (x' y' : State (Cells K)) (r' : Renamed ρ x' y') (c : Call K) (a : Answer K F) (q : Place ℕ (Region K)) where
+  module _ (x' y' : State (Cells K)) (r' : Renamed ρ x' y') (c : Call K) (a : Outcome K F) (q : Place ℕ (Region K)) where
     done_to : Done kd before c a x' q → Done kd after c a y' (relabel_place ρ.to q)
     done_to d =
         let back = renamed_back ρ x y r in

@@ -9,9 +9,8 @@ use Rattle.trees.specs.Edits.{Place, whole}
 use Rattle.trees.specs.Paths.{inside}
 use Rattle.store.specs.Nodes.{plain}
 use Rattle.store.specs.declared.node.Region.{Region}
-use Rattle.runs.specs.declared.call.Answer.{Answer}
-use Rattle.runs.specs.declared.call.Call.{Call}
-use Rattle.runs.specs.Calls.{Kind, regions}
+use Rattle.requests.specs.declared.call.Call.{Call}
+use Rattle.runs.specs.Calls.{Kind, regions, Outcome}
 use Rattle.runs.specs.Histories.{History, Lookup, lookup, set_of, to_do, open_since, seat_key, bits}
 use Rattle.runs.specs.States.{State, Cells, Row, row_of, pool, waiting_nodes, InTree}
 use Rattle.runs.specs.Effects.{Exact}
@@ -47,14 +46,14 @@ module _ {K F : Type 0} (kd : Kind K F) {N : ℕ} (ρ : Renaming N) (z y : State
       let p₀ : Place ℕ (Region K) = relabel_place ρ.from p in
       let was = tree_to (inverse ρ) (state y us) (state z ts) (renamed_back ρ (state z ts) (state y us) r₀) p s in
       let a = exact_to kd ρ (state z ts) (state y us) r₀ (history ts) p₀ t.after u.after h.2 t.call t.answer q (e p₀ was) in
-      let E : History K F → Place ℕ (Region K) → Call K → Answer K F → Type 0 =
+      let E : History K F → Place ℕ (Region K) → Call K → Outcome K F → Type 0 =
       λ g w c b. Exact kd (scene kd g (state y us) w) c b u.after (relabel_place ρ.to q) in
       let a₁ : E (history us) (relabel_place ρ.to p₀) t.call t.answer =
       subst (λ (g : History K F). E g (relabel_place ρ.to p₀) t.call t.answer) (sym (turns_history ρ ts us h.3)) a in
       let a₂ : E (history us) p t.call t.answer =
       subst (λ (w : Place ℕ (Region K)). E (history us) w t.call t.answer) (place_back ρ.from ρ.to ρ.to_from p) a₁ in
       let a₃ : E (history us) p u.call t.answer = subst (λ (c : Call K). E (history us) p c t.answer) (sym h.0) a₂ in
-      subst (λ (b : Answer K F). E (history us) p u.call b) (sym h.1) a₃
+      subst (λ (b : Outcome K F). E (history us) p u.call b) (sym h.1) a₃
 
   module _ (ts us : List (Turn (Cells K) K F)) (h : RenamedTurns ρ ts us) where
     abbrev same : history us ≡ history ts

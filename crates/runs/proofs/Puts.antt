@@ -1,5 +1,5 @@
 -- A state after the first put that meets the promise: the node after the seats is taken.
-use Rattle.std.proofs.Common.{◌≡◌, ℕ, suc, ◌+◌, ◌-◌, ◌<◌, ◌≤◌, Bool, true, false, cond, eqb, ◌≢◌, ◌⊎◌, List, [], ◌∷◌, ◌++◌, length, get_or, drop, set, sym, refl, ap, ◌∙◌, subst, inl, inr, arith, length-append, length-set, get_or-set_other, get_or-set_same, eqb-true}
+use Rattle.std.proofs.Common.{◌≡◌, ℕ, suc, ◌+◌, ◌-◌, ◌<◌, ◌≤◌, Bool, true, false, cond, eqb, ◌≢◌, ◌⊎◌, List, [], ◌∷◌, ◌++◌, length, get_or, drop, set, sym, refl, ap, ◌∙◌, subst, inl, inr, arith, length-append, length-set, get_or-set_other, get_or-set_same, eqb-true, Ok}
 use native.Mathlib.Decide.{dec_le}
 use borrow.Author.Tests.{eqb-false}
 use Rattle.store.specs.declared.node.Node.{Node}
@@ -10,7 +10,7 @@ use Rattle.trees.specs.Trees.{leaf, node}
 use Rattle.trees.specs.Edits.{Place, place}
 use Rattle.store.specs.Nodes.{region, plain}
 use Rattle.store.specs.declared.node.Region.{Region}
-use Rattle.runs.specs.declared.call.Call.TheVariants.{Put}
+use Rattle.requests.specs.declared.call.Call.TheVariants.{Put}
 use Rattle.runs.specs.declared.call.Answer.TheVariants.{Pending}
 use Rattle.runs.specs.Calls.{Kind, regions}
 use Rattle.runs.specs.States.{State, Cells, Free, TreeAt, with_mark, Leads, there, by_left, by_right, InTree, JustMade, AllFresh, fresh_seats}
@@ -90,7 +90,7 @@ module _ {K F : Type 0} (kd : Kind K F) (z : State (Cells K)) (low high : K) (ro
 
   -- none left: the tree was empty
   abbrev one_turn : List (Turn (Cells K) K F)
-  one_turn = turn (Put low high rows) (Pending 0) y ∷ []
+  one_turn = turn (Put low high rows) (Ok (Pending 0)) y ∷ []
 
   none_left : (i q : ℕ) → LeftAfter z one_turn i q → ⊥
   none_left i q l =
@@ -128,7 +128,7 @@ module _ {K F : Type 0} (kd : Kind K F) (z : State (Cells K)) (low high : K) (ro
     free_33 : Free z.memory 33
     free_33 = record { in_pool = record { past_seats = omega arith; inside = many }; mark_zero = free_is 33 (omega arith) }
 
-    exactly : Exact kd (first_scene kd z) (Put low high rows) (Pending 0) y (place [] (node 33 leaf (region low high rows) leaf))
+    exactly : Exact kd (first_scene kd z) (Put low high rows) (Ok (Pending 0)) y (place [] (node 33 leaf (region low high rows) leaf))
     exactly = record {
       refused_by = λ r e. absurd (let a : ◌≡◌ {A = ℕ} 0 1 = cc in let f : ⊥ = omega arith in f);
       refused_if = λ r f. absurd (none_fits kd z low high rows r made fit w f);
@@ -143,9 +143,9 @@ module _ {K F : Type 0} (kd : Kind K F) (z : State (Cells K)) (low high : K) (ro
     }
 
     exactly_all : (before : Place ℕ (Region K)) → TreeAt z before →
-        Exact kd (at_place (first_scene kd z) before) (Put low high rows) (Pending 0) y (place [] (node 33 leaf (region low high rows) leaf))
+        Exact kd (at_place (first_scene kd z) before) (Put low high rows) (Ok (Pending 0)) y (place [] (node 33 leaf (region low high rows) leaf))
     exactly_all before t =
-        place_is_enough kd (first_scene kd z) (place [] leaf) before (Put low high rows) (Pending 0) y (place [] (node 33 leaf (region low high rows) leaf))
+        place_is_enough kd (first_scene kd z) (place [] leaf) before (Put low high rows) (Ok (Pending 0)) y (place [] (node 33 leaf (region low high rows) leaf))
         (empty_tree kd.filler z made) t (λ q. omega arith) (sym (ap length made.at_rest)) exactly
 
     first_put_keeps : Kept kd z one_turn

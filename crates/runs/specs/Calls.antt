@@ -1,24 +1,23 @@
 -- Kinds of keys, regions over them, the number of each refusal, and the edit that a call asks for.
-use Rattle.std.specs.Prelude.{ℕ, Bool, true, false, Some, None, Option}
-use Rattle.keys.specs.declared.order.Order.{Order}
+use Rattle.std.specs.Prelude.{ℕ, Bool, true, false, Some, None, Ok, Err, Option, Result}
+use Rattle.std.specs.declared.cmp.Ordering.{Ordering}
 use Rattle.trees.specs.Regions.{Ranges, ranges}
 use Rattle.trees.specs.Edits.{Edit, Put as put_edit, Drop as drop_edit, Split as split_edit, Advance as advance_edit}
 use Rattle.store.specs.Nodes.{region}
 use Rattle.store.specs.declared.node.Region.{Region}
-use Rattle.runs.specs.declared.call.Call.{Call}
-use Rattle.runs.specs.declared.call.Call.TheVariants.{Put, Drop, Split, Advance, Open, Step, Close, Counts}
+use Rattle.requests.specs.declared.call.Call.{Call}
+use Rattle.requests.specs.declared.call.Call.TheVariants.{Put, Drop, Split, Advance, Open, Step, Close, Counts}
 use Rattle.runs.specs.declared.call.Refusal.{Refusal}
 use Rattle.runs.specs.declared.call.Refusal.TheVariants.{BadSize, NoSession, HasLookup, NoLookup, IllFormed, NotBelow, UnderWay, AtRest, Overlaps, NoRegion, SameAsLow, Full, FewFree, StoreRefused}
 use Rattle.runs.specs.declared.call.Answer.{Answer}
-use Rattle.runs.specs.declared.call.Answer.TheVariants.{Pending, Opened, Closed, On, Nothing, Found, Nodes, Refused}
 
 -- a kind of keys: the fault of an ill-formed key, how two keys compare, and the key that stands where there is none
 pub record Kind (K F : Type 0) : Type 0 where
   pub fault : K → Option F
-  pub order : K → K → Order
+  pub order : K → K → Ordering
   pub filler : K
 
-abbrev pub kind : {K F : Type 0} → (K → Option F) → (K → K → Order) → K → Kind K F
+abbrev pub kind : {K F : Type 0} → (K → Option F) → (K → K → Ordering) → K → Kind K F
 kind fault order filler = record { fault = fault; order = order; filler = filler }
 
 -- the regions over the keys of a kind
@@ -60,13 +59,11 @@ number_of Full = 12
 number_of FewFree = 13
 number_of (StoreRefused d f) = 14
 
+-- what a call comes to: its answer, or why it is refused
+abbrev pub Outcome : Type 0 → Type 0 → Type 0
+Outcome K F = Result (Answer K) (Refusal F)
+
 -- a call that is not refused is accepted
-abbrev pub accepted : {K F : Type 0} → Answer K F → Bool
-accepted (Pending n) = true
-accepted Opened = true
-accepted Closed = true
-accepted (On n) = true
-accepted (Nothing n) = true
-accepted (Found x n) = true
-accepted (Nodes a b c) = true
-accepted (Refused r) = false
+abbrev pub accepted : {K F : Type 0} → Outcome K F → Bool
+accepted (Ok a) = true
+accepted (Err r) = false

@@ -1,17 +1,16 @@
 -- Histories of whole keys, read by the definitions.
-use Rattle.std.specs.Prelude.{◌≡◌, ℕ, List, [], ◌∷◌, pos, Some, None, Option}
+use Rattle.std.specs.Prelude.{◌≡◌, ℕ, List, [], ◌∷◌, pos, Some, None, Option, Ok, Err}
 use Rattle.std.specs.declared.convert.Infallible.{Infallible}
 use Rattle.keys.specs.declared.whole.Whole.{Whole}
 use Rattle.keys.specs.Wholes.{whole_fault, whole_order, whole_filler}
 use Rattle.trees.specs.Regions.{gives}
 use Rattle.store.specs.Nodes.{region}
 use Rattle.store.specs.declared.node.Region.{Region}
-use Rattle.runs.specs.declared.call.Call.{Call}
-use Rattle.runs.specs.declared.call.Call.TheVariants.{Put, Drop, Advance, Open, Step, Close, Counts}
-use Rattle.runs.specs.declared.call.Answer.{Answer}
-use Rattle.runs.specs.declared.call.Answer.TheVariants.{Pending, Opened, Closed, On, Nothing, Found, Nodes, Refused}
+use Rattle.requests.specs.declared.call.Call.{Call}
+use Rattle.requests.specs.declared.call.Call.TheVariants.{Put, Drop, Advance, Open, Step, Close, Counts}
+use Rattle.runs.specs.declared.call.Answer.TheVariants.{Pending, Opened, Closed, On, Nothing, Found, Nodes}
 use Rattle.runs.specs.declared.call.Refusal.TheVariants.{UnderWay, HasLookup, NoLookup, NoRegion}
-use Rattle.runs.specs.Calls.{Kind, kind, regions}
+use Rattle.runs.specs.Calls.{Kind, kind, regions, Outcome}
 use Rattle.runs.specs.Histories.{Event, History, at, set_of, to_do, First, Lookup, lookup, open_since, seat_key, bits}
 use Rattle.runs.specs.Promise.{TrueAt}
 
@@ -28,7 +27,7 @@ span a b rows = region (key a) (key b) rows
 abbrev pub put : ℕ → ℕ → ℕ → Call Whole
 put a b rows = Put (key a) (key b) rows
 
-abbrev pub did : Call Whole → Answer Whole Infallible → Event Whole Infallible
+abbrev pub did : Call Whole → Outcome Whole Infallible → Event Whole Infallible
 did c a = record { call = c; answer = a }
 
 abbrev pub set_at : ℕ → History Whole Infallible → List (Region Whole)
@@ -54,9 +53,9 @@ answered_lookup k since steps f = record { key = key k; since = since; steps = s
 -- put [10,20) rows 5; put [30,40) rows 7; advance; open 0 for 35; step; drop 35; step; counts; close; counts; drop 10; advance
 abbrev pub printed : History Whole Infallible
 printed =
-    did Advance (Pending 0) ∷ (did (Drop (key 10)) (Refused UnderWay) ∷ (did Counts (Nodes 1 0 223) ∷ (did (Close 0) Closed ∷
-    (did Counts (Nodes 1 1 222) ∷ (did (Step 0) (Found (span 30 40 7) 2) ∷ (did (Drop (key 35)) (Pending 1) ∷ (did (Step 0) (On 1) ∷
-    (did (Open 0 (key 35)) Opened ∷ (did Advance (Pending 0) ∷ (did (put 30 40 7) (Pending 1) ∷ (did (put 10 20 5) (Pending 0) ∷ [])))))))))))
+    did Advance (Ok (Pending 0)) ∷ (did (Drop (key 10)) (Err UnderWay) ∷ (did Counts (Ok (Nodes 1 0 223)) ∷ (did (Close 0) (Ok Closed) ∷
+    (did Counts (Ok (Nodes 1 1 222)) ∷ (did (Step 0) (Ok (Found (span 30 40 7) 2)) ∷ (did (Drop (key 35)) (Ok (Pending 1)) ∷ (did (Step 0) (Ok (On 1)) ∷
+    (did (Open 0 (key 35)) (Ok Opened) ∷ (did Advance (Ok (Pending 0)) ∷ (did (put 30 40 7) (Ok (Pending 1)) ∷ (did (put 10 20 5) (Ok (Pending 0)) ∷ [])))))))))))
 
 abbrev pub first_region : List (Region Whole)
 first_region = span 10 20 5 ∷ []
@@ -91,9 +90,9 @@ pub record PrintedReads : Type 0 where
 
 abbrev pub reopened : History Whole Infallible
 reopened =
-    did (Step 0) (On 1) ∷ (did (Open 0 (key 12)) (Refused HasLookup) ∷ (did (Open 0 (key 12)) Opened ∷ (did (Step 0) (Refused NoLookup) ∷
-    (did (Close 0) Closed ∷ (did (Step 0) (Nothing 1) ∷ (did (put 30 40 7) (Pending 0) ∷ (did (Step 0) (Nothing 1) ∷
-    (did (Drop (key 5)) (Refused NoRegion) ∷ (did (Open 0 (key 35)) Opened ∷ [])))))))))
+    did (Step 0) (Ok (On 1)) ∷ (did (Open 0 (key 12)) (Err HasLookup) ∷ (did (Open 0 (key 12)) (Ok Opened) ∷ (did (Step 0) (Err NoLookup) ∷
+    (did (Close 0) (Ok Closed) ∷ (did (Step 0) (Ok (Nothing 1)) ∷ (did (put 30 40 7) (Ok (Pending 0)) ∷ (did (Step 0) (Ok (Nothing 1)) ∷
+    (did (Drop (key 5)) (Err NoRegion) ∷ (did (Open 0 (key 35)) (Ok Opened) ∷ [])))))))))
 
 pub record ReopenedReads : Type 0 where
   pub refused_is_a_moment : lookup_at 3 reopened 0 ≡ Some (answered_lookup 35 1 1 (told_first None 1 3))
@@ -111,13 +110,13 @@ pub record ReopenedReads : Type 0 where
 
 abbrev pub stale : History Whole Infallible
 stale =
-    did (Step 0) (Found (span 30 40 7) 1) ∷ (did (Open 0 (key 35)) Opened ∷ (did (Drop (key 35)) (Pending 0) ∷ (did (put 30 40 7) (Pending 0) ∷ [])))
+    did (Step 0) (Ok (Found (span 30 40 7) 1)) ∷ (did (Open 0 (key 35)) (Ok Opened) ∷ (did (Drop (key 35)) (Ok (Pending 0)) ∷ (did (put 30 40 7) (Ok (Pending 0)) ∷ [])))
 
 abbrev pub blind : History Whole Infallible
-blind = did (Step 0) (Nothing 1) ∷ (did (Open 0 (key 35)) Opened ∷ (did (put 30 40 7) (Pending 0) ∷ []))
+blind = did (Step 0) (Ok (Nothing 1)) ∷ (did (Open 0 (key 35)) (Ok Opened) ∷ (did (put 30 40 7) (Ok (Pending 0)) ∷ []))
 
 abbrev pub early : History Whole Infallible
-early = did (put 30 40 7) (Pending 0) ∷ (did (Step 0) (Found (span 30 40 7) 1) ∷ (did (Open 0 (key 35)) Opened ∷ []))
+early = did (put 30 40 7) (Ok (Pending 0)) ∷ (did (Step 0) (Ok (Found (span 30 40 7) 1)) ∷ (did (Open 0 (key 35)) (Ok Opened) ∷ []))
 
 -- the history has this lookup, first answered so, and no moment makes the answer true
 pub record Untrue (h : History Whole Infallible) (since : ℕ) (f : First Whole) : Type 0 where

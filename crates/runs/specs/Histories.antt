@@ -1,17 +1,16 @@
 -- What follows from a history alone: from the calls, their arguments and their answers. The newest call comes first.
 -- Moment 0 is after the making, and moment m after call number m. Refused calls are calls too, and have their moments.
-use Rattle.std.specs.Prelude.{ℕ, zero, suc, ◌+◌, ◌-◌, ◌^◌, Bool, false, cond, List, [], ◌∷◌, length, drop, Some, None, Option, ◌==◌, nat_le}
+use Rattle.std.specs.Prelude.{ℕ, zero, suc, ◌+◌, ◌-◌, ◌^◌, Bool, false, cond, List, [], ◌∷◌, length, drop, Some, None, Option, ◌==◌, nat_le, Ok, Err}
 use Rattle.trees.specs.Edits.{Edit, set_after}
 use Rattle.store.specs.declared.node.Region.{Region}
-use Rattle.runs.specs.declared.call.Call.{Call}
-use Rattle.runs.specs.declared.call.Call.TheVariants.{Put, Drop, Split, Advance, Open, Step, Close, Counts}
-use Rattle.runs.specs.declared.call.Answer.{Answer}
-use Rattle.runs.specs.declared.call.Answer.TheVariants.{Pending, Opened, Closed, On, Nothing, Found, Nodes, Refused}
-use Rattle.runs.specs.Calls.{Kind, regions, edit_of, accepted}
+use Rattle.requests.specs.declared.call.Call.{Call}
+use Rattle.requests.specs.declared.call.Call.TheVariants.{Put, Drop, Split, Advance, Open, Step, Close, Counts}
+use Rattle.runs.specs.declared.call.Answer.TheVariants.{Pending, Opened, Closed, On, Nothing, Found, Nodes}
+use Rattle.runs.specs.Calls.{Kind, regions, edit_of, accepted, Outcome}
 
 pub record Event (K F : Type 0) : Type 0 where
   pub call : Call K
-  pub answer : Answer K F
+  pub answer : Outcome K F
 
 abbrev pub History : Type 0 → Type 0 → Type 0
 History K F = List (Event K F)
@@ -33,15 +32,15 @@ module _ {K F : Type 0} (kd : Kind K F) where
 
 -- THE EDIT UNDER WAY
 
-abbrev pub last_told : {K F : Type 0} → Answer K F → ℕ → ℕ
-last_told (Pending n) m = n
-last_told Opened m = m
-last_told Closed m = m
-last_told (On n) m = m
-last_told (Nothing n) m = m
-last_told (Found x n) m = m
-last_told (Nodes a b c) m = m
-last_told (Refused r) m = m
+abbrev pub last_told : {K F : Type 0} → Outcome K F → ℕ → ℕ
+last_told (Ok (Pending n)) m = n
+last_told (Ok Opened) m = m
+last_told (Ok Closed) m = m
+last_told (Ok (On n)) m = m
+last_told (Ok (Nothing n)) m = m
+last_told (Ok (Found x n)) m = m
+last_told (Ok (Nodes a b c)) m = m
+last_told (Err r) m = m
 
 -- how many nodes are pending, as last told; 0 at rest
 abbrev pub to_do : {K F : Type 0} → History K F → ℕ
@@ -78,27 +77,27 @@ seat_after s Advance was = was
 seat_after s Counts was = was
 
 module _ {K F : Type 0} where
-  abbrev pub told : ℕ → Answer K F → Option (First K)
-  told m (Found x n) = Some (record { gave = Some x; steps = n; moment = m })
-  told m (Nothing n) = Some (record { gave = None; steps = n; moment = m })
-  told m (On n) = None
-  told m (Pending n) = None
-  told m Opened = None
-  told m Closed = None
-  told m (Nodes a b c) = None
-  told m (Refused r) = None
+  abbrev pub told : ℕ → Outcome K F → Option (First K)
+  told m (Ok (Found x n)) = Some (record { gave = Some x; steps = n; moment = m })
+  told m (Ok (Nothing n)) = Some (record { gave = None; steps = n; moment = m })
+  told m (Ok (On n)) = None
+  told m (Ok (Pending n)) = None
+  told m (Ok Opened) = None
+  told m (Ok Closed) = None
+  told m (Ok (Nodes a b c)) = None
+  told m (Err r) = None
 
   -- the first answer stays
-  abbrev pub first_told : ℕ → Answer K F → Option (First K) → Option (First K)
+  abbrev pub first_told : ℕ → Outcome K F → Option (First K) → Option (First K)
   first_told m a None = told m a
   first_told m a (Some f) = Some f
 
-  abbrev pub with_step : ℕ → Answer K F → Option (Lookup K) → Option (Lookup K)
+  abbrev pub with_step : ℕ → Outcome K F → Option (Lookup K) → Option (Lookup K)
   with_step m a None = None
   with_step m a (Some l) = Some (record { key = l.key; since = l.since; steps = suc l.steps; first = first_told m a l.first })
 
   -- session s's lookup after an accepted call, which ends at moment m
-  abbrev pub lookup_after : ℕ → ℕ → Call K → Answer K F → Option (Lookup K) → Option (Lookup K)
+  abbrev pub lookup_after : ℕ → ℕ → Call K → Outcome K F → Option (Lookup K) → Option (Lookup K)
   lookup_after s m (Open j k) a o = cond (j == s) (Some (record { key = k; since = m; steps = 0; first = None })) o
   lookup_after s m (Step j) a o = cond (j == s) (with_step m a o) o
   lookup_after s m (Close j) a o = cond (j == s) None o

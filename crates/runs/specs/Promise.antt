@@ -1,5 +1,5 @@
 -- The promise over runs.
-use Rattle.std.specs.Prelude.{◌≡◌, ℕ, suc, ◌+◌, ◌<◌, ◌≤◌, T, ◌⊎◌, List, [], ◌∷◌, length, Some, None, ◌≢◌}
+use Rattle.std.specs.Prelude.{◌≡◌, ℕ, suc, ◌+◌, ◌<◌, ◌≤◌, T, ◌⊎◌, List, [], ◌∷◌, length, Some, None, ◌≢◌, Err}
 use Rattle.store.specs.declared.node.Node.{Node}
 use Rattle.store.specs.declared.fault.StoreFault.{StoreFault}
 use Rattle.store.specs.Cells.{readable, mark_of, cell_at}
@@ -11,11 +11,9 @@ use Rattle.trees.specs.Paths.{Distinct}
 use Rattle.store.specs.Nodes.{plain}
 use Rattle.store.specs.declared.node.Region.{Region}
 use Rattle.runs.specs.declared.call.Doing.{Doing}
-use Rattle.runs.specs.declared.call.Call.{Call}
-use Rattle.runs.specs.declared.call.Answer.{Answer}
-use Rattle.runs.specs.declared.call.Answer.TheVariants.{Refused}
+use Rattle.requests.specs.declared.call.Call.{Call}
 use Rattle.runs.specs.declared.call.Refusal.TheVariants.{BadSize, StoreRefused}
-use Rattle.runs.specs.Calls.{Kind, regions}
+use Rattle.runs.specs.Calls.{Kind, regions, Outcome}
 use Rattle.runs.specs.Histories.{History, at, set_of, to_do, First, Lookup, lookup, open_since, seat_key, bits}
 use Rattle.runs.specs.States.{State, Cells, meant, row_of, pool, InPool, live_nodes, waiting_nodes, free_nodes, InTree, TreeAt, JustMade}
 use Rattle.runs.specs.Effects.{Exact}
@@ -24,7 +22,7 @@ use Rattle.runs.specs.Runs.{Turn, history, state, meant_turns, LeftAfter, LeftDu
 -- no call of a history was answered 14
 abbrev pub None14 : {K F : Type 0} → History K F → Type 0
 None14 [] = Unit {0}
-None14 (e ∷ h) = ((d : Doing) (f : StoreFault) → e.answer ≢ Refused (StoreRefused d f)) × None14 h
+None14 (e ∷ h) = ((d : Doing) (f : StoreFault) → e.answer ≢ Err (StoreRefused d f)) × None14 h
 
 module _ {K F : Type 0} (kd : Kind K F) where
   -- AT A MOMENT: after the calls ts, from the state z of the making
@@ -95,7 +93,7 @@ module _ {K F : Type 0} (kd : Kind K F) where
 
   -- THE PROMISE, of a making and calls that do what Makes and Does say, over memories that mean cells. Nothing is asked of a
   -- memory but that it is fit at the making: that it stays so is promised.
-  module _ {M : Type 0} (cells : M → Cells K) (fit : M → Type 0) (Makes : M → State M → Type 0) (Does : State M → Call K → Answer K F → State M → Type 0) where
+  module _ {M : Type 0} (cells : M → Cells K) (fit : M → Type 0) (Makes : M → State M → Type 0) (Does : State M → Call K → Outcome K F → State M → Type 0) where
     pub record Promise : Type 0 where
       pub made : (m : M) (z : State M) → fit m → Makes m z → fit z.memory × JustMade kd.filler (meant cells z)
       -- every list of calls, whatever is repeated or refused in it
@@ -105,14 +103,14 @@ module _ {K F : Type 0} (kd : Kind K F) where
       -- where N is below 160 or above 4,096 the making writes nothing, every call is refused with 1, and nothing is altered
       pub out_of_range_made : (m : M) (z : State M) → (InRange (length (cells m)) → ⊥) → Makes m z → cells z.memory ≡ cells m
       pub out_of_range :
-          (x y : State M) (c : Call K) (a : Answer K F) → (InRange (length (cells x.memory)) → ⊥) → Does x c a y →
-          (a ≡ Refused BadSize) × (meant cells y ≡ meant cells x)
+          (x y : State M) (c : Call K) (a : Outcome K F) → (InRange (length (cells x.memory)) → ⊥) → Does x c a y →
+          (a ≡ Err BadSize) × (meant cells y ≡ meant cells x)
 
   -- Every call can be made at every moment, so that there are runs of every list of calls. It is said of memories that are
   -- cells: which memory a store passes to is the store's own affair, but one with these cells there is.
-  module _ (Makes : Cells K → State (Cells K) → Type 0) (Does : State (Cells K) → Call K → Answer K F → State (Cells K) → Type 0) where
+  module _ (Makes : Cells K → State (Cells K) → Type 0) (Does : State (Cells K) → Call K → Outcome K F → State (Cells K) → Type 0) where
     pub record GoesOn : Type 0 where
       pub made : (cs : Cells K) → (z : State (Cells K)) × Makes cs z
       pub called :
           (z : State (Cells K)) (ts : List (Turn (Cells K) K F)) → Run FitCells Makes Does z ts → (c : Call K) →
-          (a : Answer K F) × (y : State (Cells K)) × Does (state z ts) c a y
+          (a : Outcome K F) × (y : State (Cells K)) × Does (state z ts) c a y

@@ -1,18 +1,18 @@
 -- Runs: a catalogue and its memory from the making on, in the sole care of the eight calls. The newest call comes first.
 use Rattle.std.specs.Prelude.{◌≡◌, ℕ, suc, ◌-◌, ◌<◌, false, T, List, [], ◌∷◌, length, drop}
-use Rattle.runs.specs.declared.call.Call.{Call}
-use Rattle.runs.specs.declared.call.Answer.{Answer}
+use Rattle.requests.specs.declared.call.Call.{Call}
 use Rattle.runs.specs.Histories.{History, open_since}
 use Rattle.runs.specs.States.{State, Cells, meant, InTree, member}
+use Rattle.runs.specs.Calls.{Outcome}
 
 -- a call of a run, its answer, and the state after it
 pub record Turn (M K F : Type 0) : Type 0 where
   pub call : Call K
-  pub answer : Answer K F
+  pub answer : Outcome K F
   pub after : State M
 
 module _ {M K F : Type 0} where
-  abbrev pub turn : Call K → Answer K F → State M → Turn M K F
+  abbrev pub turn : Call K → Outcome K F → State M → Turn M K F
   turn c a y = record { call = c; answer = a; after = y }
 
   abbrev pub history : List (Turn M K F) → History K F
@@ -35,11 +35,11 @@ module _ {M K F : Type 0} where
 
   -- EVERY RUN: the making over a fit memory, then calls, each on the state that the one before it left. What a fit memory is, and
   -- what the making and the calls do, are parameters; nothing more is asked of a step.
-  pub data Run (fit : M → Type 0) (Makes : M → State M → Type 0) (Does : State M → Call K → Answer K F → State M → Type 0)
+  pub data Run (fit : M → Type 0) (Makes : M → State M → Type 0) (Does : State M → Call K → Outcome K F → State M → Type 0)
       (z : State M) : List (Turn M K F) → Type 0 where
     making : (m : M) → fit m → Makes m z → Run fit Makes Does z []
     calling :
-        (ts : List (Turn M K F)) (c : Call K) (a : Answer K F) (y : State M) →
+        (ts : List (Turn M K F)) (c : Call K) (a : Outcome K F) (y : State M) →
         Run fit Makes Does z ts → Does (state z ts) c a y → Run fit Makes Does z (turn c a y ∷ ts)
 
 module _ {K F : Type 0} where

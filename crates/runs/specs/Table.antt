@@ -1,6 +1,6 @@
 -- The table of refusals: which lines fit a call, and which of them is told.
 use Rattle.std.specs.Prelude.{◌≡◌, ℕ, ◌-◌, ◌<◌, ◌≤◌, Bool, true, false, cond, ◌||◌, T, List, [], ◌∷◌, length, Some, None, Option}
-use Rattle.keys.specs.declared.order.Order.TheVariants.{Same}
+use Rattle.std.specs.declared.cmp.Ordering.TheVariants.{Equal}
 use Rattle.store.specs.Fits.{InRange}
 use Rattle.trees.specs.Regions.{below, gives, overlaps}
 use Rattle.trees.specs.Trees.{Tree, leaf, node, seek}
@@ -8,8 +8,8 @@ use Rattle.trees.specs.Rotations.{too_heavy}
 use Rattle.trees.specs.Edits.{Frame, frame, Place, whole, descend, standing}
 use Rattle.store.specs.Nodes.{region}
 use Rattle.store.specs.declared.node.Region.{Region}
-use Rattle.runs.specs.declared.call.Call.{Call}
-use Rattle.runs.specs.declared.call.Call.TheVariants.{Put, Drop, Split, Advance, Open, Step, Close, Counts}
+use Rattle.requests.specs.declared.call.Call.{Call}
+use Rattle.requests.specs.declared.call.Call.TheVariants.{Put, Drop, Split, Advance, Open, Step, Close, Counts}
 use Rattle.runs.specs.declared.call.Argument.{Argument}
 use Rattle.runs.specs.declared.call.Argument.TheVariants.{Low, High, Key}
 use Rattle.runs.specs.declared.call.Refusal.{Refusal}
@@ -145,7 +145,7 @@ module _ {K F : Type 0} (kd : Kind K F) where
         (low high : K) (rows : ℕ) → T (overlaps (regions kd) (region low high rows) (set_of kd x.past)) → Fits x (Put low high rows) Overlaps
     no_region : (c : Call K) (k : K) → region_key c ≡ Some k → gives (regions kd) (set_of kd x.past) k ≡ None → Fits x c NoRegion
     same_as_low :
-        (b : K) (m n : ℕ) (y : Region K) → gives (regions kd) (set_of kd x.past) b ≡ Some y → kd.order y.low b ≡ Same →
+        (b : K) (m n : ℕ) (y : Region K) → gives (regions kd) (set_of kd x.past) b ≡ Some y → kd.order y.low b ≡ Equal →
         Fits x (Split b m n) SameAsLow
     full : (c : Call K) → T (adds_region c) → length (set_of kd x.past) ≡ pool x.state.memory - 96 → Fits x c Full
     few_free : (c : Call K) → free_nodes x.state.memory < free_needed c x.place → Fits x c FewFree

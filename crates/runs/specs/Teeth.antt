@@ -1,5 +1,5 @@
 -- That the promise has teeth: the making meets it, it speaks of one tree and one refusal, and cheats do not meet it.
-use Rattle.std.specs.Prelude.{◌≡◌, ℕ, suc, ◌+◌, ◌<◌, ◌≤◌, true, false, ◌⊎◌, List, [], ◌∷◌, length, Some, None, Option, ◌≢◌, slice_set}
+use Rattle.std.specs.Prelude.{◌≡◌, ℕ, suc, ◌+◌, ◌<◌, ◌≤◌, true, false, ◌⊎◌, List, [], ◌∷◌, length, Some, None, Option, ◌≢◌, slice_set, Ok, Err}
 use Rattle.keys.specs.declared.whole.Whole.{Whole}
 use Rattle.store.specs.declared.node.Node.{Node}
 use Rattle.store.specs.Cells.{readable, cell_at, all_shut}
@@ -10,13 +10,12 @@ use Rattle.trees.specs.Paths.{In, Distinct}
 use Rattle.trees.specs.Edits.{Place, whole}
 use Rattle.store.specs.Nodes.{region, region_of}
 use Rattle.store.specs.declared.node.Region.{Region}
-use Rattle.runs.specs.declared.call.Call.{Call}
-use Rattle.runs.specs.declared.call.Call.TheVariants.{Put, Drop, Open, Step, Counts}
-use Rattle.runs.specs.declared.call.Answer.{Answer}
-use Rattle.runs.specs.declared.call.Answer.TheVariants.{Pending, Opened, Closed, On, Nothing, Found, Nodes, Refused}
+use Rattle.requests.specs.declared.call.Call.{Call}
+use Rattle.requests.specs.declared.call.Call.TheVariants.{Put, Drop, Open, Step, Counts}
+use Rattle.runs.specs.declared.call.Answer.TheVariants.{Pending, Opened, Closed, On, Nothing, Found, Nodes}
 use Rattle.runs.specs.declared.call.Refusal.{Refusal}
 use Rattle.runs.specs.declared.call.Refusal.TheVariants.{FewFree}
-use Rattle.runs.specs.Calls.{Kind, regions, accepted}
+use Rattle.runs.specs.Calls.{Kind, regions, accepted, Outcome}
 use Rattle.runs.specs.Histories.{Lookup, lookup, set_of, to_do}
 use Rattle.runs.specs.States.{State, Cells, row, going, row_of, pool, waiting_nodes, free_nodes, InPool, InTree, TreeAt, JustMade}
 use Rattle.runs.specs.Table.{Scene, FirstLine}
@@ -40,7 +39,7 @@ at_place x p = record { past = x.past; state = x.state; place = p }
 -- exact for one place if it is for the other, where the history tells how many nodes are pending.
 abbrev pub PlaceIsEnough : {K F : Type 0} → Kind K F → Type 0
 PlaceIsEnough {K} {F} kd =
-    (x : Scene K F) (p q : Place ℕ (Region K)) (c : Call K) (a : Answer K F) (y : State (Cells K)) (after : Place ℕ (Region K)) →
+    (x : Scene K F) (p q : Place ℕ (Region K)) (c : Call K) (a : Outcome K F) (y : State (Cells K)) (after : Place ℕ (Region K)) →
     TreeAt x.state p → TreeAt x.state q → Distinct (whole p) → to_do x.past ≡ length x.state.pending →
     Exact kd (at_place x p) c a y after → Exact kd (at_place x q) c a y after
 
@@ -50,15 +49,15 @@ Among x [] = ⊥
 Among x (y ∷ ys) = (y ≡ x) ⊎ Among x ys
 
 -- the steps that an answer tells
-abbrev pub steps_told : {K F : Type 0} → Answer K F → Option ℕ
-steps_told (On n) = Some n
-steps_told (Nothing n) = Some n
-steps_told (Found x n) = Some n
-steps_told (Pending n) = None
-steps_told Opened = None
-steps_told Closed = None
-steps_told (Nodes a b c) = None
-steps_told (Refused r) = None
+abbrev pub steps_told : {K F : Type 0} → Outcome K F → Option ℕ
+steps_told (Ok (On n)) = Some n
+steps_told (Ok (Nothing n)) = Some n
+steps_told (Ok (Found x n)) = Some n
+steps_told (Ok (Pending n)) = None
+steps_told (Ok Opened) = None
+steps_told (Ok Closed) = None
+steps_told (Ok (Nodes a b c)) = None
+steps_told (Err r) = None
 
 module _ {K F : Type 0} (kd : Kind K F) where
   -- ONE REFUSAL: the table tells one, its number, and for 5 the argument and the fault too
@@ -73,7 +72,7 @@ module _ {K F : Type 0} (kd : Kind K F) where
   abbrev pub FirstPutCanKeep : Type 0
   FirstPutCanKeep =
       (z : State (Cells K)) (low high : K) (rows : ℕ) → JustMade kd.filler z → FitCells z.memory →
-      WellMade (regions kd) (region low high rows) → (y : State (Cells K)) × Kept kd z (turn (Put low high rows) (Pending 0) y ∷ [])
+      WellMade (regions kd) (region low high rows) → (y : State (Cells K)) × Kept kd z (turn (Put low high rows) (Ok (Pending 0)) y ∷ [])
 
   -- CHEATS, and what each is refuted by
 
@@ -81,7 +80,7 @@ module _ {K F : Type 0} (kd : Kind K F) where
   abbrev pub IdlePutFails : Type 0
   IdlePutFails =
       (z y : State (Cells K)) (ts : List (Turn (Cells K) K F)) (low high : K) (rows n : ℕ) →
-      Kept kd z (turn (Put low high rows) (Pending n) y ∷ ts) → y.root ≢ 0
+      Kept kd z (turn (Put low high rows) (Ok (Pending n)) y ∷ ts) → y.root ≢ 0
 
   -- a tree outside the store's nodes: for each region of the set a readable pool node of mark 1 has it, and is in the tree
   pub record HasNode (z : State (Cells K)) (x : Region K) : Type 0 where
@@ -104,18 +103,18 @@ module _ {K F : Type 0} (kd : Kind K F) where
   -- refusing calls: the first put of a region with well-formed keys, low below high, is accepted, by refused_by
   abbrev pub FirstPutIsTaken : Type 0
   FirstPutIsTaken =
-      (z y : State (Cells K)) (low high : K) (rows : ℕ) (a : Answer K F) → JustMade kd.filler z → FitCells z.memory →
-      WellMade (regions kd) (region low high rows) → Kept kd z (turn (Put low high rows) a y ∷ []) → a ≡ Pending 0
+      (z y : State (Cells K)) (low high : K) (rows : ℕ) (a : Outcome K F) → JustMade kd.filler z → FitCells z.memory →
+      WellMade (regions kd) (region low high rows) → Kept kd z (turn (Put low high rows) a y ∷ []) → a ≡ Ok (Pending 0)
 
   -- calls that never refuse: a drop from the empty set is refused, by refused_if
   abbrev pub FirstDropIsRefused : Type 0
   FirstDropIsRefused =
-      (z y : State (Cells K)) (k : K) (a : Answer K F) → JustMade kd.filler z → Kept kd z (turn (Drop k) a y ∷ []) → accepted a ≡ false
+      (z y : State (Cells K)) (k : K) (a : Outcome K F) → JustMade kd.filler z → Kept kd z (turn (Drop k) a y ∷ []) → accepted a ≡ false
 
   -- constant calls: a counts after that first put does not answer what the put did, by answers
   abbrev pub ConstantFails : Type 0
   ConstantFails =
-      (z y y' : State (Cells K)) (low high : K) (rows : ℕ) (a : Answer K F) → JustMade kd.filler z → FitCells z.memory →
+      (z y y' : State (Cells K)) (low high : K) (rows : ℕ) (a : Outcome K F) → JustMade kd.filler z → FitCells z.memory →
       WellMade (regions kd) (region low high rows) → Kept kd z (turn (Put low high rows) a y ∷ []) →
       Kept kd z (turn Counts a y' ∷ (turn (Put low high rows) a y ∷ [])) → ⊥
 
@@ -127,26 +126,26 @@ module _ {K F : Type 0} (kd : Kind K F) where
   abbrev pub ThirteenIsTrue : ℕ → ℕ → Type 0
   ThirteenIsTrue most one =
       (z y : State (Cells K)) (ts : List (Turn (Cells K) K F)) (c : Call K) → Kept kd z ts →
-      Kept kd z (turn c (Refused FewFree) y ∷ ts) → FewAreFree most one c (free_nodes (state z ts).memory)
+      Kept kd z (turn c (Err FewFree) y ∷ ts) → FewAreFree most one c (free_nodes (state z ts).memory)
 
   -- a lookup finished in open: an open leaves the lookup at the root link with no step made, whatever the tree, by answers
   abbrev pub OpenOnlyOpens : Type 0
   OpenOnlyOpens =
-      (z y : State (Cells K)) (ts : List (Turn (Cells K) K F)) (s : ℕ) (k : K) → Kept kd z ts → Kept kd z (turn (Open s k) Opened y ∷ ts) →
+      (z y : State (Cells K)) (ts : List (Turn (Cells K) K F)) (s : ℕ) (k : K) → Kept kd z ts → Kept kd z (turn (Open s k) (Ok Opened) y ∷ ts) →
       y.rows ≡ slice_set (state z ts).rows s (row going (state z ts).root 0)
 
   -- none at a node that was not compared: a lookup that was at a node has read it, and its key leads to link 0 there, by Steps
   abbrev pub NoneIsCompared : Type 0
   NoneIsCompared =
       (z y : State (Cells K)) (ts : List (Turn (Cells K) K F)) (s n : ℕ) (l : Lookup K) → Kept kd z ts → lookup s (history ts) ≡ Some l →
-      l.first ≡ None → 1 ≤ (row_of (state z ts) s).place → Kept kd z (turn (Step s) (Nothing n) y ∷ ts) →
+      l.first ≡ None → 1 ≤ (row_of (state z ts) s).place → Kept kd z (turn (Step s) (Ok (Nothing n)) y ∷ ts) →
       (v : Node K) × (cell_at (state z ts).memory (row_of (state z ts) s).place ≡ readable v) ×
       Onward (seek (regions kd) l.key (region_of v)) v 0
 
   -- invented steps: until it is answered, a lookup's answers carry just its accepted steps, this one too, by Steps
   abbrev pub StepsAreCounted : Type 0
   StepsAreCounted =
-      (z y : State (Cells K)) (ts : List (Turn (Cells K) K F)) (s : ℕ) (a : Answer K F) (l : Lookup K) → Kept kd z ts →
+      (z y : State (Cells K)) (ts : List (Turn (Cells K) K F)) (s : ℕ) (a : Outcome K F) (l : Lookup K) → Kept kd z ts →
       lookup s (history ts) ≡ Some l → l.first ≡ None → accepted a ≡ true → Kept kd z (turn (Step s) a y ∷ ts) →
       steps_told a ≡ Some (suc l.steps)
 
@@ -159,7 +158,7 @@ module _ {K F : Type 0} (kd : Kind K F) where
   abbrev pub CountsTellTruth : Type 0
   CountsTellTruth =
       (z y : State (Cells K)) (ts : List (Turn (Cells K) K F)) (a b c : ℕ) → Kept kd z ts →
-      Kept kd z (turn Counts (Nodes a b c) y ∷ ts) → Truth z ts a b c
+      Kept kd z (turn Counts (Ok (Nodes a b c)) y ∷ ts) → Truth z ts a b c
 
   -- nodes freed at once: a node has left during a lookup still open, and none waits: waiting_have_left
   abbrev pub FreedAtOnceFails : Type 0
@@ -184,5 +183,5 @@ module _ {K F : Type 0} (kd : Kind K F) where
 -- an edit that is over at once: the put of [30,40) beside [10,20) leaves so many nodes pending, by answers and tree_made
 abbrev pub SecondPutLeaves : ℕ → Type 0
 SecondPutLeaves pending =
-    (z y y' : State (Cells Whole)) (n : ℕ) → Kept wholes z (turn (put 10 20 5) (Pending 0) y ∷ []) →
-    Kept wholes z (turn (put 30 40 7) (Pending n) y' ∷ (turn (put 10 20 5) (Pending 0) y ∷ [])) → n ≡ pending
+    (z y y' : State (Cells Whole)) (n : ℕ) → Kept wholes z (turn (put 10 20 5) (Ok (Pending 0)) y ∷ []) →
+    Kept wholes z (turn (put 30 40 7) (Ok (Pending n)) y' ∷ (turn (put 10 20 5) (Ok (Pending 0)) y ∷ [])) → n ≡ pending

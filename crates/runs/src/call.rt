@@ -1,31 +1,11 @@
-// The calls of a catalogue, what they answer, and why one is refused.
+// What the calls of a catalogue answer, and why one is refused.
 ghost use Rattle.std.specs.Prelude.{◌≡◌};
 ghost use Rattle.runs.specs.Calls.{number_of};
 
 use store::{Region, StoreFault};
 
-#[derive(Clone, Copy)]
-pub enum Call<K> {
-    // Adds the region [low, high).
-    Put { low: K, high: K, rows: u64 },
-    // Removes the region that holds the key.
-    Drop { key: K },
-    // Turns the region [low, high) that holds the key into [low, key) and [key, high).
-    Split { key: K, lower: u64, upper: u64 },
-    // Treats the lowest pending node of the edit under way.
-    Advance,
-    // Begins a lookup of the key.
-    Open { session: u8, key: K },
-    // Takes the session's lookup one node further.
-    Step { session: u8 },
-    // Ends the session's lookup.
-    Close { session: u8 },
-    // Asks for the numbers of live, waiting and free nodes.
-    Counts,
-}
-
 // An argument that is a key.
-#[derive(Clone, Copy)]
+#[derive(Clone, Copy, PartialEq, Eq, Debug)]
 pub enum Argument {
     Low,
     High,
@@ -33,7 +13,7 @@ pub enum Argument {
 }
 
 // What was being done when the store refused.
-#[derive(Clone, Copy)]
+#[derive(Clone, Copy, PartialEq, Eq, Debug)]
 pub enum Doing {
     Search,
     Copy,
@@ -98,8 +78,9 @@ impl<F> Refusal<F> {
     }
 }
 
+// What an accepted call answers; a refused one comes to an `Err` with its refusal.
 #[derive(Clone, Copy)]
-pub enum Answer<K, F> {
+pub enum Answer<K> {
     // Put, drop, split and advance: so many nodes are pending; with none the catalogue is at rest.
     Pending(u16),
     // Open: the lookup has begun.
@@ -114,6 +95,4 @@ pub enum Answer<K, F> {
     Found(Region<K>, u64),
     // Counts: live, waiting and free nodes.
     Nodes(u16, u16, u16),
-    // Any call: refused.
-    Refused(Refusal<F>),
 }

@@ -5,7 +5,8 @@
 mod call;
 mod theorems;
 
-pub use call::{Answer, Argument, Call, Doing, Refusal};
+pub use call::{Answer, Argument, Doing, Refusal};
+pub use requests::Call;
 pub use theorems::{
     cheats_fail, edits_rename, examples_stand, first_put_can_keep, kept_renames, making_keeps,
     place_is_enough, refusal_is_one, second_put_leaves_one, thirteen_is_true, tree_is_one,

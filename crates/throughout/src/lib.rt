@@ -8,16 +8,12 @@ ghost use Rattle.throughout.specs.Promises.{ExactRunsKeep, LookupsReady};
 use keys::Key;
 
 // A run of exact calls keeps the whole promise.
-pub fn exact_runs_keep<K: Key>() -> u8
+pub fn exact_runs_keep<K: Key>()
     ensures { ExactRunsKeep (kind K.Ordered.fault K.Ordered.order K.Key.blank) }
-{
-    0
-}
+{}
 
 // What a step of an open lookup finds after such a run: its row, its seat, and at its place a node that can be read, with the region
 // that was told once it is answered.
-pub fn lookups_are_ready<K: Key>() -> u8
+pub fn lookups_are_ready<K: Key>()
     ensures { LookupsReady (kind K.Ordered.fault K.Ordered.order K.Key.blank) }
-{
-    0
-}
+{}

@@ -1,29 +1,30 @@
 -- From the three laws on well-formed keys to what trees and region sets need of the order.
 use Rattle.std.proofs.Common.{◌≡◌, true, false, T, ◌⊎◌, List, [], ◌∷◌, None, Option, refl, inl, inr, arith}
-use Rattle.keys.specs.declared.order.Order.{Order}
-use Rattle.keys.specs.declared.order.Order.TheVariants.{Below, Same, Above}
+use Rattle.std.specs.declared.cmp.Ordering.{Ordering}
+use Rattle.std.specs.declared.cmp.Ordering.TheVariants.{Less, Equal, Greater}
+use Rattle.std.specs.Ordering.{is_le}
 use Rattle.keys.specs.Orders.{reversed, NotAbove}
-use Rattle.trees.specs.Regions.{not_above, Ranges, ranges, Laws, below, upto, holds, Region, EndsBefore, RegionSet}
+use Rattle.trees.specs.Regions.{Ranges, ranges, Laws, below, upto, holds, Region, EndsBefore, RegionSet}
 use Rattle.trees.specs.Trees.{Turn, to_left, here, to_right, seek}
 use Rattle.trees.proofs.Risings.{All, PartsWays, Ahead, Rising}
 
 -- a kind of keys that keeps the three laws
 pub lawful :
-    {K F R : Type 0} (fault : K → Option F) (order : K → K → Order) (low high : R → K) → ((a : K) → fault a ≡ None → order a a ≡ Same) →
+    {K F R : Type 0} (fault : K → Option F) (order : K → K → Ordering) (low high : R → K) → ((a : K) → fault a ≡ None → order a a ≡ Equal) →
     ((a b : K) → fault a ≡ None → fault b ≡ None → order b a ≡ reversed (order a b)) →
     ((a b c : K) → fault a ≡ None → fault b ≡ None → fault c ≡ None → NotAbove (order a b) → NotAbove (order b c) → NotAbove (order a c)) →
     Laws (ranges fault order low high)
 lawful fault order low high p q r = record { reflexive = p; reversal = q; transitive = r }
 
-never_above : (o : Order) → T (not_above o) → NotAbove o
-never_above Below h = tt
-never_above Same h = tt
-never_above Above h = absurd h
+never_above : (o : Ordering) → T (is_le o) → NotAbove o
+never_above Less h = tt
+never_above Equal h = tt
+never_above Greater h = absurd h
 
-above_never : (o : Order) → NotAbove o → T (not_above o)
-above_never Below h = tt
-above_never Same h = tt
-above_never Above h = absurd h
+above_never : (o : Ordering) → NotAbove o → T (is_le o)
+above_never Less h = tt
+above_never Equal h = tt
+above_never Greater h = absurd h
 
 module _ {K R : Type 0} (g : Ranges K R) (laws : Laws g) where
   pub chain : (a b c : K) → g.Formed a → g.Formed b → g.Formed c → T (upto g a b) → T (upto g b c) → T (upto g a c)

@@ -1,6 +1,6 @@
 -- The laws of the region set.
 use Rattle.std.proofs.Common.{◌≡◌, ℕ, ◌+◌, ◌≤◌, Bool, true, false, cond, ◌&&◌, ◌||◌, T, ◌⊎◌, List, [], ◌∷◌, ◌++◌, Some, None, Option, sym, refl, ◌∙◌, subst, arith}
-use Rattle.keys.specs.declared.order.Order.TheVariants.{Same}
+use Rattle.std.specs.declared.cmp.Ordering.TheVariants.{Equal}
 use Rattle.trees.specs.Regions.{Ranges, Laws, below, upto, holds, Region, RegionSet, gives, holders, overlap, overlaps, set_put, set_replace, Parts}
 use Rattle.trees.specs.Trees.{to_left, to_right, seek}
 use Rattle.trees.specs.Edits.{Edit, Put, Drop, Split, Advance, set_after}
@@ -144,7 +144,7 @@ module _ {K R : Type 0} (g : Ranges K R) (laws : Laws g) where
   holder_true k x h = grind arith
 
   -- the region that holds b begins below it
-  pub begins_below : (b : K) (x : R) → holds g x b ≡ true → (g.order (g.low x) b ≡ Same → ⊥) → T (below g (g.low x) b)
+  pub begins_below : (b : K) (x : R) → holds g x b ≡ true → (g.order (g.low x) b ≡ Equal → ⊥) → T (below g (g.low x) b)
   begins_below b x e n = let h = holds_low g laws b x e in grind arith
 
   module _ (b : K) (lower upper : R → R) (parts : Parts g b lower upper) (b-formed : g.Formed b) (x : R) (r : Region g x)

@@ -1,45 +1,36 @@
 -- Keys in order, regions over them, and the region set: what it gives for a key, and what put, drop and split make of it.
 use Rattle.std.specs.Prelude.{◌≡◌, ℕ, ◌+◌, Bool, true, false, cond, ◌&&◌, ◌||◌, T, List, [], ◌∷◌, ◌++◌, Some, None, Option}
-use Rattle.keys.specs.declared.order.Order.{Order}
-use Rattle.keys.specs.declared.order.Order.TheVariants.{Below, Same, Above}
+use Rattle.std.specs.declared.cmp.Ordering.{Ordering}
+use Rattle.std.specs.declared.cmp.Ordering.TheVariants.{Equal}
+use Rattle.std.specs.Ordering.{is_lt, is_le}
 use Rattle.keys.specs.Orders.{reversed, NotAbove}
-
-abbrev pub is_below : Order → Bool
-is_below Below = true
-is_below Same = false
-is_below Above = false
-
-abbrev pub not_above : Order → Bool
-not_above Below = true
-not_above Same = true
-not_above Above = false
 
 -- Keys and regions over them: which keys are well formed, how two compare, and the low and the high key of a region.
 -- What else a region carries does not matter here: it is passed along whole.
 pub record Ranges (K R : Type 0) : Type 1 where
   pub Formed : K → Type 0
-  pub order : K → K → Order
+  pub order : K → K → Ordering
   pub low : R → K
   pub high : R → K
 
 -- over a kind of keys: a key is well formed if it has no fault
-abbrev pub ranges : {K F R : Type 0} → (K → Option F) → (K → K → Order) → (R → K) → (R → K) → Ranges K R
+abbrev pub ranges : {K F R : Type 0} → (K → Option F) → (K → K → Ordering) → (R → K) → (R → K) → Ranges K R
 ranges fault order low high = record { Formed = λ a. fault a ≡ None; order = order; low = low; high = high }
 
 module _ {K R : Type 0} (g : Ranges K R) where
   -- the three laws of the order, for well-formed keys
   pub record Laws : Type 0 where
-    pub reflexive : (a : K) → g.Formed a → g.order a a ≡ Same
+    pub reflexive : (a : K) → g.Formed a → g.order a a ≡ Equal
     pub reversal : (a b : K) → g.Formed a → g.Formed b → g.order b a ≡ reversed (g.order a b)
     pub transitive :
         (a b c : K) → g.Formed a → g.Formed b → g.Formed c →
         NotAbove (g.order a b) → NotAbove (g.order b c) → NotAbove (g.order a c)
 
   abbrev pub below : K → K → Bool
-  below a b = is_below (g.order a b)
+  below a b = is_lt (g.order a b)
 
   abbrev pub upto : K → K → Bool
-  upto a b = not_above (g.order a b)
+  upto a b = is_le (g.order a b)
 
   -- a region holds k if its low key is not above k and k is below its high key
   abbrev pub holds : R → K → Bool

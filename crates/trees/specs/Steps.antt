@@ -1,6 +1,6 @@
 -- What holds of every edit: of the region set, of the tree, and of both from one step to the next.
 use Rattle.std.specs.Prelude.{◌≡◌, ℕ, ◌≤◌, Bool, false, cond, T, List, [], length, Some, None, Option, ◌≢◌, nat_eq}
-use Rattle.keys.specs.declared.order.Order.TheVariants.{Same}
+use Rattle.std.specs.declared.cmp.Ordering.TheVariants.{Equal}
 use Rattle.trees.specs.Regions.{Ranges, below, holds, Region, RegionSet, gives, holders, overlaps, Parts}
 use Rattle.trees.specs.Trees.{Tree, inorder, count, height, Balanced, seek}
 use Rattle.trees.specs.Edits.{Place, place, whole, Edit, Put, Drop, Split, Advance, Made, edited, set_after, Mending}
@@ -13,7 +13,7 @@ module _ {K R : Type 0} (g : Ranges K R) where
   Accepted (Put x) xs = Region g x × (overlaps g x xs ≡ false)
   Accepted (Drop k) xs = g.Formed k
   Accepted (Split b lower upper) xs =
-      g.Formed b × Parts g b lower upper × ((x : R) → gives g xs b ≡ Some x → g.order (g.low x) b ≢ Same)
+      g.Formed b × Parts g b lower upper × ((x : R) → gives g xs b ≡ Some x → g.order (g.low x) b ≢ Equal)
   Accepted Advance xs = Unit {0}
 
   -- THE REGION SET
