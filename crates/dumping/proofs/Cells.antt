@@ -1,5 +1,5 @@
 -- The lines of cells, one after another.
-use Rattle.std.proofs.Common.{◌≡◌, ℕ, ◌+◌, ◌<◌, ◌≤◌, Bool, true, false, cond, eqb, List, [], ◌∷◌, ◌++◌, length, get_or, drop, Ok, Err, codes, decimal, sym, ap, ◌∙◌, append_assoc, append-nil, arith}
+use Rattle.std.proofs.Common.{◌≡◌, ℕ, ◌+◌, ◌-◌, ◌<◌, ◌≤◌, Bool, true, false, cond, eqb, List, [], ◌∷◌, ◌++◌, length, drop, Ok, Err, codes, decimal, sym, ap, ◌∙◌, append_assoc, append-nil, arith}
 use Rattle.std.proofs.lemmas.Bool.{eq-eqb, ne_eqb}
 use Rattle.std.proofs.lemmas.Bool.Decides.{nat_tests}
 use Rattle.std.proofs.lemmas.List.{drop_more, drop_all}
@@ -52,26 +52,26 @@ pub all_more : (m : ℕ) (t : Totals) → all_marked (marked m t) ≡ all_marked
 all_more m t =
     total_by (eqb m 0) (eqb m 1) (eqb m 2) (eqb m 3) _ _ _ _ _ (all_marked t + 1) (omega arith) (omega arith) (omega arith) (omega arith) (omega arith)
 
--- the cells from place i on, by the number of the first
-left_cells : {K : Type 0} (cs : List (Cell K)) (i : ℕ) → i < length cs → drop i cs ≡ cell_at cs (i + 1) ∷ drop (i + 1) cs
-left_cells cs i h = drop_more cs i (shut 0) h ∙ ap (λ k. get_or cs k (shut 0) ∷ drop (i + 1) cs) (omega arith)
+-- the cells from node n on
+left_cells : {K : Type 0} (cs : List (Cell K)) (n : ℕ) → 0 < n → n ≤ length cs → drop (n - 1) cs ≡ cell_at cs n ∷ drop (n + 1 - 1) cs
+left_cells cs n l h = drop_more cs (n - 1) (shut 0) (omega arith) ∙ ap (λ k. cell_at cs n ∷ drop k cs) (omega arith)
 
-pub lines_more : {K : Type 0} (held : K → AnyKey) (cs : List (Cell K)) (i : ℕ) (out more : List ℕ) → i < length cs →
-    more ≡ out ++ cell_line held (i + 1) (cell_at cs (i + 1)) → more ++ cell_lines held (i + 1 + 1) (drop (i + 1) cs) ≡ out ++ cell_lines held (i + 1) (drop i cs)
-lines_more held cs i out more h e =
-    ap (λ l. l ++ cell_lines held (i + 1 + 1) (drop (i + 1) cs)) e
-    ∙ append_assoc out (cell_line held (i + 1) (cell_at cs (i + 1))) (cell_lines held (i + 1 + 1) (drop (i + 1) cs))
-    ∙ ap (λ l. out ++ cell_lines held (i + 1) l) (sym (left_cells cs i h))
+pub lines_more : {K : Type 0} (held : K → AnyKey) (cs : List (Cell K)) (n : ℕ) (out more : List ℕ) → 0 < n → n ≤ length cs →
+    more ≡ out ++ cell_line held n (cell_at cs n) → more ++ cell_lines held (n + 1) (drop (n + 1 - 1) cs) ≡ out ++ cell_lines held n (drop (n - 1) cs)
+lines_more held cs n out more l h e =
+    ap (λ x. x ++ cell_lines held (n + 1) (drop (n + 1 - 1) cs)) e
+    ∙ append_assoc out (cell_line held n (cell_at cs n)) (cell_lines held (n + 1) (drop (n + 1 - 1) cs))
+    ∙ ap (λ x. out ++ cell_lines held n x) (sym (left_cells cs n l h))
 
-pub counted_more : {K : Type 0} (cs : List (Cell K)) (i : ℕ) (t u : Totals) → i < length cs → u ≡ marked (mark_of (cell_at cs (i + 1))) t →
-    counted u (drop (i + 1) cs) ≡ counted t (drop i cs)
-counted_more cs i t u h e = ap (λ v. counted v (drop (i + 1) cs)) e ∙ ap (counted t) (sym (left_cells cs i h))
+pub counted_more : {K : Type 0} (cs : List (Cell K)) (n : ℕ) (t u : Totals) → 0 < n → n ≤ length cs → u ≡ marked (mark_of (cell_at cs n)) t →
+    counted u (drop (n + 1 - 1) cs) ≡ counted t (drop (n - 1) cs)
+counted_more cs n t u l h e = ap (λ v. counted v (drop (n + 1 - 1) cs)) e ∙ ap (counted t) (sym (left_cells cs n l h))
 
-pub at_end : {K : Type 0} (held : K → AnyKey) (cs : List (Cell K)) (i n : ℕ) (out text : List ℕ) (t : Totals) → length cs ≤ i → n ≡ length cs →
-    out ++ cell_lines held (i + 1) (drop i cs) ≡ cell_lines held 1 cs → counted t (drop i cs) ≡ counted none_marked cs →
-    text ≡ out ++ totals_line n t → text ≡ dumped held cs
-at_end held cs i n out text t h en lines marks e =
-    let none = drop_all i cs h in
-    let all : out ≡ cell_lines held 1 cs = sym (append-nil out) ∙ ap (λ l. out ++ cell_lines held (i + 1) l) (sym none) ∙ lines in
+pub at_end : {K : Type 0} (held : K → AnyKey) (cs : List (Cell K)) (n : ℕ) (out text : List ℕ) (t : Totals) → length cs < n →
+    out ++ cell_lines held n (drop (n - 1) cs) ≡ cell_lines held 1 cs → counted t (drop (n - 1) cs) ≡ counted none_marked cs →
+    text ≡ out ++ totals_line (length cs) t → text ≡ dumped held cs
+at_end held cs n out text t h lines marks e =
+    let none = drop_all (n - 1) cs (omega arith) in
+    let all : out ≡ cell_lines held 1 cs = sym (append-nil out) ∙ ap (λ l. out ++ cell_lines held n l) (sym none) ∙ lines in
     let sum : t ≡ counted none_marked cs = ap (counted t) (sym none) ∙ marks in
-    e ∙ ap (λ l. l ++ totals_line n t) all ∙ ap (λ k. cell_lines held 1 cs ++ totals_line k t) en ∙ ap (λ u. cell_lines held 1 cs ++ totals_line (length cs) u) sum
+    e ∙ ap (λ l. l ++ totals_line (length cs) t) all ∙ ap (λ u. cell_lines held 1 cs ++ totals_line (length cs) u) sum

@@ -1,7 +1,7 @@
 -- The sessions of a node, one by one.
 use Rattle.std.proofs.Common.{◌≡◌, ℕ, zero, suc, ◌+◌, ◌/◌, ◌%◌, ◌^◌, cond, eqb, List, [], ◌++◌, codes, decimal, sym, ap, ◌∙◌, append_assoc, append-nil, add-zero, zero-add, add-one, arith}
 use Rattle.std.proofs.lemmas.Bool.{eq-eqb, ne_eqb}
-use Rattle.dumping.specs.Nodes.{sessions, waits_shown}
+use Rattle.dumping.specs.Nodes.{sessions}
 
 abbrev part : ℕ → ℕ → List ℕ
 part waits s = cond (eqb (waits / 2 ^ s % 2) 1) (codes " " ++ decimal s) []
@@ -21,6 +21,3 @@ set_more waits k e = sym (one_more waits k ∙ ap (λ b. sessions waits 0 k ++ c
 pub clear_more : (waits k : ℕ) → (waits / 2 ^ k % 2 ≡ 1 → ⊥) → sessions waits 0 k ≡ sessions waits 0 (k + 1)
 clear_more waits k e =
     sym (one_more waits k ∙ ap (λ b. sessions waits 0 k ++ cond b (codes " " ++ decimal k) []) (ne_eqb (waits / 2 ^ k % 2) 1 e) ∙ append-nil (sessions waits 0 k))
-
-pub some_shown : (waits : ℕ) → (waits ≡ 0 → ⊥) → sessions waits 0 32 ≡ waits_shown waits
-some_shown waits h = sym (ap (λ b. cond b (codes " none") (sessions waits 0 32)) (ne_eqb waits 0 h))

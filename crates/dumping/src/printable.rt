@@ -1,4 +1,5 @@
-// Keys that can be printed beside those of other kinds.
+// Keys that can be printed beside those of other kinds. A trait of its own beside `Into<AnyKey>`, which may be silent on what it converts to:
+// of a kind that is, a dump could promise nothing.
 ghost use Rattle.std.specs.Prelude.{◌≡◌};
 ghost use Rattle.listing.specs.declared.call.AnyKey.{AnyKey};
 ghost use Rattle.listing.specs.declared.call.AnyKey.TheVariants as any;
@@ -18,7 +19,7 @@ impl Printable for Whole {
     ghost held = { any.Whole };
 
     fn any(&self) -> AnyKey {
-        AnyKey::Whole(*self)
+        (*self).into()
     }
 }
 
@@ -26,7 +27,7 @@ impl Printable for Decimal {
     ghost held = { any.Decimal };
 
     fn any(&self) -> AnyKey {
-        AnyKey::Decimal(*self)
+        (*self).into()
     }
 }
 
@@ -34,6 +35,6 @@ impl Printable for Text {
     ghost held = { any.Text };
 
     fn any(&self) -> AnyKey {
-        AnyKey::Text(*self)
+        (*self).into()
     }
 }

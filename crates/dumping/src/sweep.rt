@@ -2,7 +2,7 @@
 ghost use Rattle.std.specs.Prelude.{◌≡◌, ◌<◌, ◌≤◌, ◌++◌, length, IfOk, string_bytes, OnOk};
 ghost use Rattle.store.specs.Cells.{mark_of, cell_at};
 ghost use Rattle.dumping.specs.Marks.{marked, all_marked};
-ghost use Rattle.dumping.specs.Dumps.{line_of, cell_line, dumped};
+ghost use Rattle.dumping.specs.Dumps.{cell_line, dumped};
 
 use crate::line::{Line, Mark};
 use crate::printable::Printable;
@@ -12,6 +12,7 @@ use std::fmt;
 use store::{FREE, Store};
 
 // Adds the line of node n, if it has one, and counts its mark.
+#[tactic(auto, using(store::proofs::Uses::mark_is))]
 fn dump_cell<K: Printable, S: Store<Key = K>>(
     out: &mut String,
     totals: &mut Totals,
@@ -24,10 +25,7 @@ fn dump_cell<K: Printable, S: Store<Key = K>>(
     ensures text { OnOk result (string_bytes out.new ≡ string_bytes out.old ++ cell_line K.Printable.held n (cell_at (S.Store.cells store.now) n)) }
     ensures marks { totals.new ≡ marked (mark_of (cell_at (S.Store.cells store.now) n)) totals.old }
 {
-    let mark = match store.mark(n) {
-        Ok(mark) => mark,
-        Err(_) => unreachable(),
-    };
+    let mark = store.mark(n).unwrap();
     totals.add(mark);
     if mark == FREE {
         return Ok(());
@@ -44,11 +42,11 @@ pub fn dump<K: Printable, S: Store<Key = K>>(heap: Global, store: &S) -> Result<
     ensures { IfOk result (λ s. string_bytes s ≡ dumped K.Printable.held (S.Store.cells store.now)) }
 {
     let mut out = String::new(heap);
-    let mut totals = Totals::new();
+    let mut totals = Totals::default();
     let count = store.count();
-    for i in 0..count {
-        dump_cell(&mut out, &mut totals, store, i + 1).map_err(fmt::Error::from)?;
+    for n in 1..=count {
+        dump_cell(&mut out, &mut totals, store, n)?;
     }
-    writeln!(out, "{count} nodes: {totals}").map_err(fmt::Error::from)?;
+    writeln!(out, "{count} nodes: {totals}")?;
     Ok(out)
 }

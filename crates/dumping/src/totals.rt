@@ -1,11 +1,11 @@
-// How many nodes have each mark.
+// How many nodes have each mark, whichever it is and wherever they are. The counts of `sessions` are another thing: three marks, in the pool alone.
 ghost use Rattle.std.specs.Prelude.{◌≡◌, ◌<◌, Some};
-ghost use Rattle.dumping.specs.Marks.{none_marked, marked, all_marked, totals_shown};
+ghost use Rattle.dumping.specs.Marks.{marked, all_marked, totals_shown};
 
 use std::fmt;
 use store::{FREE, LIVE, SEAT, WAITING};
 
-#[derive(Clone, Copy)]
+#[derive(Clone, Copy, Default)]
 pub struct Totals {
     live: usize,
     waiting: usize,
@@ -15,18 +15,6 @@ pub struct Totals {
 }
 
 impl Totals {
-    pub(crate) fn new() -> Totals
-        ensures { result ≡ none_marked }
-    {
-        Totals {
-            live: 0,
-            waiting: 0,
-            free: 0,
-            seats: 0,
-            unknown: 0,
-        }
-    }
-
     // One node more with a mark.
     pub(crate) fn add(&mut self, mark: u8)
         requires { all_marked self.old < 18446744073709551615 }

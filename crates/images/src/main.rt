@@ -14,10 +14,8 @@ fn print_text(
     text: Result<String, fmt::Error>,
 ) -> anyhow::Result<()> {
     println!(rt; "== {title}")?;
-    match text {
-        Ok(lines) => Ok(print!(rt; "{lines}")?),
-        Err(_) => Err(anyhow!("out of memory")),
-    }
+    let lines = text.map_err(|_| anyhow!("out of memory"))?;
+    Ok(print!(rt; "{lines}")?)
 }
 
 fn dump_all(rt: &HostRuntime) -> anyhow::Result<()> {

@@ -5,12 +5,13 @@ use Rattle.journal.specs.declared.format.KeyKind.{KeyKind}
 use Rattle.journal.specs.declared.format.KeyKind.TheVariants.{Whole, Decimal, Text}
 use Rattle.journal.specs.declared.format.RecordKind.{RecordKind}
 use Rattle.journal.specs.declared.format.RecordKind.TheVariants.{Put, Drop, Split, Advance, Open, Step, Close, Counts}
-use Rattle.journal.specs.declared.format.Record.{Record}
+use Rattle.requests.specs.declared.call.Call.{Call}
+use Rattle.requests.specs.declared.call.Call.TheVariants as entry
 use Rattle.keys.specs.Bytes.{bytes, number}
 use Rattle.journal.specs.KeyKinds.{key_byte, key_width, key_kind}
 use Rattle.journal.specs.RecordKinds.{kind_byte, record_kind, body_width}
 use Rattle.journal.specs.Readings.{Reading, reads, record_of, from_kind, reading, from_key_kind}
-use Rattle.journal.specs.Entries.{Entry, puts, drops, splits, advances, opens, steps, closes, counts, entry_kind, entry_body, entries_bytes, encode}
+use Rattle.journal.specs.Entries.{Entry, entry_kind, entry_body, entries_bytes, encode}
 use Rattle.journal.specs.Entries.{Fits, AllFit, filled, fault_of, entries_of}
 use Rattle.journal.specs.Laws.{WrittenIsRead}
 use Rattle.keys.proofs.Numbers.{shifted, number_bytes, length_bytes}
@@ -54,14 +55,14 @@ three_parts : (a b c : List ℕ) → length (a ++ (b ++ c)) ≡ length a + (leng
 three_parts a b c = simp length-append
 
 body_length : (keys : KeyKind) (e : Entry) → Fits (key_width keys) e → length (entry_body e) ≡ body_width keys (entry_kind e)
-body_length keys (puts low high rows) f = three_parts low high (bytes 8 rows) ∙ omega arith
-body_length keys (drops key) f = f
-body_length keys (splits key lower upper) f = three_parts key (bytes 8 lower) (bytes 8 upper) ∙ omega arith
-body_length keys advances f = refl
-body_length keys (opens session key) f = omega arith
-body_length keys (steps session) f = refl
-body_length keys (closes session) f = refl
-body_length keys counts f = refl
+body_length keys (entry.Put low high rows) f = three_parts low high (bytes 8 rows) ∙ omega arith
+body_length keys (entry.Drop key) f = f
+body_length keys (entry.Split key lower upper) f = three_parts key (bytes 8 lower) (bytes 8 upper) ∙ omega arith
+body_length keys entry.Advance f = refl
+body_length keys (entry.Open session key) f = omega arith
+body_length keys (entry.Step session) f = refl
+body_length keys (entry.Close session) f = refl
+body_length keys entry.Counts f = refl
 
 -- a key that begins at a place, and what follows it
 key_is : (w place : ℕ) (log key more : List ℕ) → length key ≡ w → drop place log ≡ key ++ more → take w (drop place log) ≡ key
@@ -88,37 +89,37 @@ word_between n i a c more l h =
     let regroup : (b : List ℕ) → (a ++ (b ++ c)) ++ more ≡ a ++ (b ++ (c ++ more)) = λ b. simp append_assoc in
     ap (number 8 i) (regroup (bytes 8 n)) ∙ word_is n i a (c ++ more) l h
 
-same_puts : (a a' b b' : List ℕ) (n n' : ℕ) → a ≡ a' → b ≡ b' → n ≡ n' → puts a b n ≡ puts a' b' n'
+same_puts : (a a' b b' : List ℕ) (n n' : ℕ) → a ≡ a' → b ≡ b' → n ≡ n' → entry.Put a b n ≡ entry.Put a' b' n'
 same_puts a a' b b' n n' e f g = cc
 
-same_splits : (a a' : List ℕ) (m m' n n' : ℕ) → a ≡ a' → m ≡ m' → n ≡ n' → splits a m n ≡ splits a' m' n'
+same_splits : (a a' : List ℕ) (m m' n n' : ℕ) → a ≡ a' → m ≡ m' → n ≡ n' → entry.Split a m n ≡ entry.Split a' m' n'
 same_splits a a' m m' n n' e f g = cc
 
 -- the record of an entry whose body begins at a place of the log tells the entry again
 filled_back : (keys : KeyKind) (e : Entry) (place : ℕ) (log more : List ℕ) → Fits (key_width keys) e → drop place log ≡ entry_body e ++ more →
     filled (key_width keys) log (record_of keys (entry_kind e) place (entry_body e ++ more)) ≡ e
-filled_back keys (puts low high rows) place log more f h =
+filled_back keys (entry.Put low high rows) place log more f h =
     let both = two_keys (key_width keys) place log low high (bytes 8 rows) more f.0 f.1 h in
     same_puts _ low _ high _ rows both.0 both.1 (word_last rows (2 * key_width keys) low high more (omega arith) f.2)
-filled_back keys (drops key) place log more f h = ap drops (key_is (key_width keys) place log key more f h)
-filled_back keys (splits key lower upper) place log more f h =
+filled_back keys (entry.Drop key) place log more f h = ap entry.Drop (key_is (key_width keys) place log key more f h)
+filled_back keys (entry.Split key lower upper) place log more f h =
     let w : ℕ = key_width keys in
     same_splits _ key _ lower _ upper
     (key_is w place log key ((bytes 8 lower ++ bytes 8 upper) ++ more) f.0 (h ∙ append_assoc key (bytes 8 lower ++ bytes 8 upper) more))
     (word_between lower w key (bytes 8 upper) more f.0 f.1) (word_last upper (w + 8) key (bytes 8 lower) more (omega arith) f.2)
-filled_back keys advances place log more f h = refl
-filled_back keys (opens session key) place log more f h =
-    ap (opens session) (key_is (key_width keys) (place + 1) log key more f (past_key 1 place log (session ∷ []) (key ++ more) refl h))
-filled_back keys (steps session) place log more f h = refl
-filled_back keys (closes session) place log more f h = refl
-filled_back keys counts place log more f h = refl
+filled_back keys entry.Advance place log more f h = refl
+filled_back keys (entry.Open session key) place log more f h =
+    ap (entry.Open session) (key_is (key_width keys) (place + 1) log key more f (past_key 1 place log (session ∷ []) (key ++ more) refl h))
+filled_back keys (entry.Step session) place log more f h = refl
+filled_back keys (entry.Close session) place log more f h = refl
+filled_back keys entry.Counts place log more f h = refl
 
 -- the bytes of entries, read from any place of a log on
 pub record Tells (keys : KeyKind) (log : List ℕ) (es : List Entry) (r : Reading) : Type 0 where
   pub no_fault : fault_of r ≡ None
   pub same_entries : entries_of keys log r ≡ es
 
-one_more : (keys : KeyKind) (log : List ℕ) (e : Entry) (es : List Entry) (x : Record) (r : Reading) → filled (key_width keys) log x ≡ e → Tells keys log es r →
+one_more : (keys : KeyKind) (log : List ℕ) (e : Entry) (es : List Entry) (x : Call ℕ) (r : Reading) → filled (key_width keys) log x ≡ e → Tells keys log es r →
     Tells keys log (e ∷ es) (reads x r)
 one_more keys log e es x r h t = record { no_fault = t.no_fault; same_entries = ap (λ y. y ∷ entries_of keys log r) h ∙ ap (λ ys. e ∷ ys) t.same_entries }
 

@@ -1,28 +1,28 @@
 -- What is read was written.
-use Rattle.std.proofs.Common.{◌≡◌, ℕ, zero, suc, ◌+◌, ◌*◌, ◌^◌, ◌<◌, ◌≤◌, Bool, true, false, cond, eqb, ltb, List, [], ◌∷◌, ◌++◌, length, get_or, take, drop, Some, None, Option, sym, refl, ap, ◌∙◌, subst, append_assoc, add-zero, suc-add, zero-add, one-add, arith, lit<, length-append, length-drop, take-append-drop, ltb-false, ltb-true, eqb-true}
-use Rattle.std.proofs.lemmas.List.{drop-drop, length-take-le, take_all, drop_all}
+use Rattle.std.proofs.Common.{◌≡◌, ℕ, zero, suc, ◌+◌, ◌*◌, ◌^◌, ◌<◌, ◌≤◌, Bool, true, false, cond, eqb, ltb, List, [], ◌∷◌, ◌++◌, length, get_or, take, drop, Some, None, Option, find, sym, refl, ap, ◌∙◌, subst, append_assoc, add-zero, one-add, arith, lit<, length-append, length-drop, take-append-drop, ltb-false, ltb-true, eqb-true}
+use Rattle.std.proofs.lemmas.List.{drop-drop, length-take-le, drop_all}
+use Rattle.std.proofs.Math.Seq.{take-add}
 use Rattle.journal.specs.declared.format.KeyKind.{KeyKind}
 use Rattle.journal.specs.declared.format.RecordKind.{RecordKind}
 use Rattle.journal.specs.declared.format.RecordKind.TheVariants.{Put, Drop, Split, Advance, Open, Step, Close, Counts}
 use Rattle.journal.specs.declared.format.LogFault.TheVariants.{Cut}
 use Rattle.keys.specs.Bytes.{AllBytes, bytes, number}
-use Rattle.journal.specs.Bytewise.{of_byte}
 use Rattle.journal.specs.KeyKinds.{key_byte, key_width, key_kinds, key_kind}
 use Rattle.journal.specs.RecordKinds.{kind_byte, record_kinds, record_kind, body_width}
 use Rattle.journal.specs.Readings.{Reading, fails, reads, record_of, from_kind, reading, from_key_kind}
 use Rattle.journal.specs.Entries.{Entry, entry_kind, entry_body, entries_bytes, Fits, AllFit, filled, fault_of, entries_of}
 use Rattle.journal.specs.Laws.{GoesOn, Accounted, ReadWasWritten}
-use Rattle.keys.proofs.Numbers.{number_lt, bytes_number}
-use Rattle.journal.proofs.Entries.{key_back, kind_back, number_front, number_past}
+use Rattle.keys.proofs.Numbers.{number_lt, bytes_number, number_taken}
+use Rattle.journal.proofs.Entries.{key_back, kind_back}
 
 -- the kind that a byte stands for has that byte; a byte that stands for no kind is the byte of none
 module _ {K : Type 0} (byte_of : K → ℕ) where
-  by_test : (ks : List K) (b : ℕ) (j k : K) → (of_byte byte_of ks b ≡ Some k → b ≡ byte_of k) →
-      (t : Bool) → eqb b (byte_of j) ≡ t → cond t (Some j) (of_byte byte_of ks b) ≡ Some k → b ≡ byte_of k
+  by_test : (ks : List K) (b : ℕ) (j k : K) → (find (λ x. eqb b (byte_of x)) ks ≡ Some k → b ≡ byte_of k) →
+      (t : Bool) → eqb b (byte_of j) ≡ t → cond t (Some j) (find (λ x. eqb b (byte_of x)) ks) ≡ Some k → b ≡ byte_of k
   by_test ks b j k others true q h = let same : j ≡ k = cc in eqb-true b (byte_of j) q ∙ ap byte_of same
   by_test ks b j k others false q h = others h
 
-  has_byte : (ks : List K) (b : ℕ) (k : K) → of_byte byte_of ks b ≡ Some k → b ≡ byte_of k
+  has_byte : (ks : List K) (b : ℕ) (k : K) → find (λ x. eqb b (byte_of x)) ks ≡ Some k → b ≡ byte_of k
   has_byte [] b k e = let z : ◌≡◌ {A = ℕ} 0 1 = cc in let w : ⊥ = omega arith in elim w [ ]
   has_byte (j ∷ ks) b k e = by_test ks b j k (has_byte ks b k) (eqb b (byte_of j)) refl e
 
@@ -44,34 +44,20 @@ small_take (suc n) (x ∷ xs) s (suc i) = small_take n xs (λ j. s (suc j)) i
 part_length : (i n : ℕ) (xs : List ℕ) → i + n ≤ length xs → length (take n (drop i xs)) ≡ n
 part_length i n xs h = let l : n ≤ length (drop i xs) = simp length-drop (omega arith) in length-take-le n (drop i xs) l
 
-two_parts : (m n : ℕ) (xs : List ℕ) → take (m + n) xs ≡ take m xs ++ take n (drop m xs)
-two_parts zero n xs = ap (λ k. take k xs) (zero-add n)
-two_parts (suc m) n [] = ap (λ k. take k []) (suc-add m n) ∙ sym (take_all n [] (omega arith))
-two_parts (suc m) n (x ∷ xs) = ap (λ k. take k (x ∷ xs)) (suc-add m n) ∙ ap (λ l. x ∷ l) (two_parts m n xs)
-
 three_parts_of : (m n p : ℕ) (xs : List ℕ) → take (m + n + p) xs ≡ take m xs ++ (take n (drop m xs) ++ take p (drop (m + n) xs))
 three_parts_of m n p xs =
-    two_parts (m + n) p xs ∙ ap (λ l. l ++ take p (drop (m + n) xs)) (two_parts m n xs)
+    take-add (m + n) p xs ∙ ap (λ l. l ++ take p (drop (m + n) xs)) (take-add m n xs)
     ∙ append_assoc (take m xs) (take n (drop m xs)) (take p (drop (m + n) xs))
 
 -- a number inside a list of bytes: it fits its width, and writes these bytes again
-number_part : (k i : ℕ) (xs : List ℕ) → i + k ≤ length xs → number k i xs ≡ number k 0 (take k (drop i xs))
-number_part k i xs h =
-    let a = take i xs in
-    let b = drop i xs in
-    let l : i ≤ length xs = omega arith in
-    let front : 0 + k ≤ length (take k (drop i xs)) = omega (arith, part_length i k xs h) in
-    ap (number k i) (sym (take-append-drop i xs)) ∙ ap (λ j. number k j (a ++ b)) (sym (length-take-le i xs l)) ∙ number_past k a b
-    ∙ ap (number k 0) (sym (take-append-drop k b)) ∙ number_front k 0 (take k b) (drop k b) front
-
 number_fits : (k i : ℕ) (xs : List ℕ) → i + k ≤ length xs → AllBytes xs → number k i xs < 256 ^ k
 number_fits k i xs h s =
-    subst (λ n. n < 256 ^ k) (sym (number_part k i xs h))
+    subst (λ n. n < 256 ^ k) (number_taken k i xs h)
     (number_lt k (take k (drop i xs)) (part_length i k xs h) (small_take k (drop i xs) (small_drop i xs s)))
 
 number_again : (k i : ℕ) (xs : List ℕ) → i + k ≤ length xs → AllBytes xs → bytes k (number k i xs) ≡ take k (drop i xs)
 number_again k i xs h s =
-    ap (bytes k) (number_part k i xs h) ∙ bytes_number k (take k (drop i xs)) (part_length i k xs h) (small_take k (drop i xs) (small_drop i xs s))
+    ap (bytes k) (sym (number_taken k i xs h)) ∙ bytes_number k (take k (drop i xs)) (part_length i k xs h) (small_take k (drop i xs) (small_drop i xs s))
 
 -- the entry that a record tells has the record's kind, fits, and its body is the record's
 kind_again : (keys : KeyKind) (k : RecordKind) (place : ℕ) (log bs : List ℕ) → entry_kind (filled (key_width keys) log (record_of keys k place bs)) ≡ k

@@ -1,13 +1,10 @@
 -- What the bytes from a place on say, by the byte that stands there.
-use Rattle.std.proofs.Common.{◌≡◌, ℕ, zero, suc, ◌+◌, ◌-◌, ◌<◌, ◌≤◌, cond, List, [], ◌∷◌, length, get_or, take, drop, Some, None, Option, sym, ap, ◌∙◌, add-zero, add-one, arith, length-drop, drop-cons, le-ltb, lt-ltb}
+use Rattle.std.proofs.Common.{◌≡◌, ℕ, zero, suc, ◌+◌, ◌-◌, ◌<◌, ◌≤◌, cond, List, [], ◌∷◌, length, get_or, take, drop, Some, Option, sym, ap, ◌∙◌, add-zero, add-one, arith, length-drop, drop-cons, le-ltb}
 use Rattle.std.proofs.lemmas.List.{drop_all, drop-drop, take_all}
 use Rattle.journal.specs.declared.format.KeyKind.{KeyKind}
 use Rattle.journal.specs.declared.format.RecordKind.{RecordKind}
-use Rattle.journal.specs.declared.format.RecordKind.TheVariants.{Put, Drop, Split, Advance, Open, Step, Close, Counts}
-use Rattle.journal.specs.declared.format.LogFault.TheVariants.{Unknown, Cut}
-use Rattle.journal.specs.Readings.{Reading, ends, fails, reads, record_of, from_kind, reading}
-use Rattle.journal.specs.Readers.{KeysInside}
-use Rattle.journal.specs.KeyKinds.{key_width}
+use Rattle.journal.specs.declared.format.LogFault.TheVariants.{Cut}
+use Rattle.journal.specs.Readings.{Reading, fails, reads, record_of, from_kind, reading}
 use Rattle.journal.specs.RecordKinds.{record_kind, body_width}
 
 -- the part of a log from a place on, as the code takes it
@@ -22,9 +19,6 @@ skipped keys place n [] = sym (ap (reading keys (place + n) 0) (drop_all n [] (o
 skipped keys place zero (b ∷ bs) = ap (λ p. reading keys p 0 (b ∷ bs)) (sym (add-zero place))
 skipped keys place (suc n) (b ∷ bs) = skipped keys (place + 1) n bs ∙ ap (λ p. reading keys p 0 (drop n bs)) (omega arith)
 
-pub at_end : (keys : KeyKind) (place : ℕ) (log : List ℕ) → length log ≤ place → reading keys place 0 (drop place log) ≡ ends
-at_end keys place log h = ap (reading keys place 0) (drop_all place log h)
-
 -- a kind byte, by the kind that it stands for
 at_kind : (keys : KeyKind) (place : ℕ) (log : List ℕ) (k : Option RecordKind) → place < length log → record_kind (get_or log place 0) ≡ k →
     reading keys place 0 (drop place log) ≡ from_kind keys place k (drop (place + 1) log) (λ n. reading keys (place + 1) n (drop (place + 1) log))
@@ -34,24 +28,11 @@ at_kind keys place log k h e =
     ap (reading keys place 0) bytes
     ∙ ap (λ o. from_kind keys place o (drop (place + 1) log) (λ n. reading keys (place + 1) n (drop (place + 1) log))) e
 
-pub at_unknown : (keys : KeyKind) (place : ℕ) (log : List ℕ) → place < length log → record_kind (get_or log place 0) ≡ None →
-    reading keys place 0 (drop place log) ≡ fails (Unknown place)
-at_unknown keys place log h e = at_kind keys place log None h e
-
--- a known kind, by whether the bytes that follow are enough for its body
-pub too_few : (keys : KeyKind) (place : ℕ) (k : RecordKind) (body : List ℕ) (after : ℕ → Reading) → length body < body_width keys k →
-    from_kind keys place (Some k) body after ≡ fails (Cut place)
-too_few keys place k body after h =
-    ap (λ t. cond t (fails (Cut place)) (reads (record_of keys k (place + 1) body) (after (body_width keys k)))) (lt-ltb _ _ h)
-
+-- a known kind, where the bytes that follow are enough for its body
 pub enough : (keys : KeyKind) (place : ℕ) (k : RecordKind) (body : List ℕ) (after : ℕ → Reading) → body_width keys k ≤ length body →
     from_kind keys place (Some k) body after ≡ reads (record_of keys k (place + 1) body) (after (body_width keys k))
 enough keys place k body after h =
     ap (λ t. cond t (fails (Cut place)) (reads (record_of keys k (place + 1) body) (after (body_width keys k)))) (le-ltb _ _ h)
-
-pub at_cut : (keys : KeyKind) (place : ℕ) (log : List ℕ) (k : RecordKind) → place < length log → record_kind (get_or log place 0) ≡ Some k →
-    length (drop (place + 1) log) < body_width keys k → reading keys place 0 (drop place log) ≡ fails (Cut place)
-at_cut keys place log k h e short = at_kind keys place log (Some k) h e ∙ too_few keys place k _ (λ n. reading keys (place + 1) n (drop (place + 1) log)) short
 
 pub at_record : (keys : KeyKind) (place : ℕ) (log : List ℕ) (k : RecordKind) → place < length log → record_kind (get_or log place 0) ≡ Some k →
     body_width keys k ≤ length (drop (place + 1) log) →
@@ -62,15 +43,3 @@ at_record keys place log k h e long =
     ∙ ap (reads (record_of keys k (place + 1) (drop (place + 1) log)))
     (skipped keys (place + 1) (body_width keys k) (drop (place + 1) log)
     ∙ ap (reading keys (place + 1 + body_width keys k) 0) (drop-drop (body_width keys k) (place + 1) log))
-
--- the keys of a record lie in its body
-pub inside : (keys : KeyKind) (k : RecordKind) (place n : ℕ) (body : List ℕ) → place + body_width keys k ≤ n →
-    KeysInside n (key_width keys) (record_of keys k place body)
-inside keys Put place n body h = (omega arith, omega arith)
-inside keys Drop place n body h = h
-inside keys Split place n body h = omega arith
-inside keys Advance place n body h = tt
-inside keys Open place n body h = omega arith
-inside keys Step place n body h = tt
-inside keys Close place n body h = tt
-inside keys Counts place n body h = tt

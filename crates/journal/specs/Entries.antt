@@ -3,8 +3,9 @@ use Rattle.std.specs.Prelude.{◌≡◌, ℕ, ◌^◌, ◌<◌, List, [], ◌∷
 use Rattle.journal.specs.declared.format.KeyKind.{KeyKind}
 use Rattle.journal.specs.declared.format.RecordKind.{RecordKind}
 use Rattle.journal.specs.declared.format.RecordKind.TheVariants as kind
-use Rattle.journal.specs.declared.format.Record.{Record}
-use Rattle.journal.specs.declared.format.Record.TheVariants.{Put, Drop, Split, Advance, Open, Step, Close, Counts}
+use Rattle.requests.specs.declared.call.Call.{Call}
+use Rattle.requests.specs.declared.call.Call.TheVariants.{Put, Drop, Split, Advance, Open, Step, Close, Counts}
+use Rattle.requests.specs.Keys.{map_keys}
 use Rattle.journal.specs.declared.format.LogFault.{LogFault}
 use Rattle.keys.specs.Bytes.{bytes}
 use Rattle.journal.specs.KeyKinds.{key_byte, key_width}
@@ -12,36 +13,29 @@ use Rattle.journal.specs.RecordKinds.{kind_byte}
 use Rattle.journal.specs.Readings.{Reading, ends, fails, reads}
 
 -- one entry of a log: keys are lists of bytes
-pub data Entry : Type 0 where
-  puts : (low high : List ℕ) (rows : ℕ) → Entry
-  drops : (key : List ℕ) → Entry
-  splits : (key : List ℕ) (lower upper : ℕ) → Entry
-  advances : Entry
-  opens : (session : ℕ) (key : List ℕ) → Entry
-  steps : (session : ℕ) → Entry
-  closes : (session : ℕ) → Entry
-  counts : Entry
+abbrev pub Entry : Type 0
+Entry = Call (List ℕ)
 
 abbrev pub entry_kind : Entry → RecordKind
-entry_kind (puts low high rows) = kind.Put
-entry_kind (drops key) = kind.Drop
-entry_kind (splits key lower upper) = kind.Split
-entry_kind advances = kind.Advance
-entry_kind (opens session key) = kind.Open
-entry_kind (steps session) = kind.Step
-entry_kind (closes session) = kind.Close
-entry_kind counts = kind.Counts
+entry_kind (Put low high rows) = kind.Put
+entry_kind (Drop key) = kind.Drop
+entry_kind (Split key lower upper) = kind.Split
+entry_kind Advance = kind.Advance
+entry_kind (Open session key) = kind.Open
+entry_kind (Step session) = kind.Step
+entry_kind (Close session) = kind.Close
+entry_kind Counts = kind.Counts
 
 -- what follows the kind byte
 abbrev pub entry_body : Entry → List ℕ
-entry_body (puts low high rows) = low ++ (high ++ bytes 8 rows)
-entry_body (drops key) = key
-entry_body (splits key lower upper) = key ++ (bytes 8 lower ++ bytes 8 upper)
-entry_body advances = []
-entry_body (opens session key) = session ∷ key
-entry_body (steps session) = session ∷ []
-entry_body (closes session) = session ∷ []
-entry_body counts = []
+entry_body (Put low high rows) = low ++ (high ++ bytes 8 rows)
+entry_body (Drop key) = key
+entry_body (Split key lower upper) = key ++ (bytes 8 lower ++ bytes 8 upper)
+entry_body Advance = []
+entry_body (Open session key) = session ∷ key
+entry_body (Step session) = session ∷ []
+entry_body (Close session) = session ∷ []
+entry_body Counts = []
 
 -- an entry is its kind byte and its body; entries follow one another
 abbrev pub entries_bytes : List Entry → List ℕ
@@ -54,14 +48,14 @@ encode keys es = key_byte keys ∷ entries_bytes es
 
 -- keys are w bytes wide, and rows are numbers of 64 bits
 abbrev pub Fits : ℕ → Entry → Type 0
-Fits w (puts low high rows) = (length low ≡ w) × (length high ≡ w) × (rows < 2 ^ 64)
-Fits w (drops key) = length key ≡ w
-Fits w (splits key lower upper) = (length key ≡ w) × (lower < 2 ^ 64) × (upper < 2 ^ 64)
-Fits w advances = Unit {0}
-Fits w (opens session key) = length key ≡ w
-Fits w (steps session) = Unit {0}
-Fits w (closes session) = Unit {0}
-Fits w counts = Unit {0}
+Fits w (Put low high rows) = (length low ≡ w) × (length high ≡ w) × (rows < 2 ^ 64)
+Fits w (Drop key) = length key ≡ w
+Fits w (Split key lower upper) = (length key ≡ w) × (lower < 2 ^ 64) × (upper < 2 ^ 64)
+Fits w Advance = Unit {0}
+Fits w (Open session key) = length key ≡ w
+Fits w (Step session) = Unit {0}
+Fits w (Close session) = Unit {0}
+Fits w Counts = Unit {0}
 
 abbrev pub AllFit : ℕ → List Entry → Type 0
 AllFit w [] = Unit {0}
@@ -72,18 +66,11 @@ abbrev pub key_at : ℕ → List ℕ → ℕ → List ℕ
 key_at w bs place = take w (drop place bs)
 
 -- a record with the bytes of its keys filled in from the log
-abbrev pub filled : ℕ → List ℕ → Record → Entry
-filled w bs (Put low high rows) = puts (key_at w bs low) (key_at w bs high) rows
-filled w bs (Drop place) = drops (key_at w bs place)
-filled w bs (Split place lower upper) = splits (key_at w bs place) lower upper
-filled w bs Advance = advances
-filled w bs (Open session place) = opens session (key_at w bs place)
-filled w bs (Step session) = steps session
-filled w bs (Close session) = closes session
-filled w bs Counts = counts
+abbrev pub filled : ℕ → List ℕ → Call ℕ → Entry
+filled w bs = map_keys (key_at w bs)
 
 -- the records of a reading, and the fault that it ends in, if any
-abbrev pub records_of : Reading → List Record
+abbrev pub records_of : Reading → List (Call ℕ)
 records_of ends = []
 records_of (fails f) = []
 records_of (reads r rest) = r ∷ records_of rest

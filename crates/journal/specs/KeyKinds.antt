@@ -1,8 +1,7 @@
 -- The kinds of keys: the first byte of a log tells which one its keys have.
-use Rattle.std.specs.Prelude.{ℕ, List, [], ◌∷◌, Option}
+use Rattle.std.specs.Prelude.{ℕ, List, [], ◌∷◌, Option, find, ◌==◌}
 use Rattle.journal.specs.declared.format.KeyKind.{KeyKind}
 use Rattle.journal.specs.declared.format.KeyKind.TheVariants.{Whole, Decimal, Text}
-use Rattle.journal.specs.Bytewise.{of_byte}
 
 -- the byte of each kind
 abbrev pub key_byte : KeyKind → ℕ
@@ -21,4 +20,4 @@ key_kinds = Whole ∷ Decimal ∷ Text ∷ []
 
 -- the kind that a byte stands for
 abbrev pub key_kind : ℕ → Option KeyKind
-key_kind b = of_byte key_byte key_kinds b
+key_kind b = find (λ k. b == key_byte k) key_kinds

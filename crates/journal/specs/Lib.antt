@@ -1,8 +1,10 @@
-pub mod Bytewise
+pub mod Unknown
 pub mod KeyKinds
+pub mod Words
 pub mod RecordKinds
 pub mod Faults
 pub mod Readings
 pub mod Readers
 pub mod Entries
 pub mod Laws
+pub mod Records

@@ -1,10 +1,10 @@
 -- What a reader has yet to read.
 use Rattle.std.specs.Prelude.{ℕ, ◌+◌, ◌≤◌, List, drop, Some, None, Ok, Err, Option, Result}
 use Rattle.journal.specs.declared.format.KeyKind.{KeyKind}
-use Rattle.journal.specs.declared.format.Record.{Record}
-use Rattle.journal.specs.declared.format.Record.TheVariants.{Put, Drop, Split, Advance, Open, Step, Close, Counts}
 use Rattle.journal.specs.declared.format.LogFault.{LogFault}
 use Rattle.journal.specs.declared.reader.Reader.{Reader}
+use Rattle.requests.specs.declared.call.Call.{Call}
+use Rattle.requests.specs.Keys.{EachKey}
 use Rattle.journal.specs.Readings.{Reading, reading, Log, refused, holds}
 
 -- the bytes of its log
@@ -29,18 +29,11 @@ abbrev pub KeyInside : ℕ → ℕ → ℕ → Type 0
 KeyInside n w place = place + w ≤ n
 
 -- so do all keys of a record
-abbrev pub KeysInside : ℕ → ℕ → Record → Type 0
-KeysInside n w (Put low high rows) = KeyInside n w low × KeyInside n w high
-KeysInside n w (Drop place) = KeyInside n w place
-KeysInside n w (Split place lower upper) = KeyInside n w place
-KeysInside n w Advance = Unit {0}
-KeysInside n w (Open session place) = KeyInside n w place
-KeysInside n w (Step session) = Unit {0}
-KeysInside n w (Close session) = Unit {0}
-KeysInside n w Counts = Unit {0}
+abbrev pub KeysInside : ℕ → ℕ → Call ℕ → Type 0
+KeysInside n w = EachKey (KeyInside n w)
 
 -- and of the record that an answer tells, if it tells one
-abbrev pub AnswerInside : ℕ → ℕ → Result (Option Record) LogFault → Type 0
+abbrev pub AnswerInside : ℕ → ℕ → Result (Option (Call ℕ)) LogFault → Type 0
 AnswerInside n w (Ok None) = Unit {0}
 AnswerInside n w (Ok (Some r)) = KeysInside n w r
 AnswerInside n w (Err f) = Unit {0}

@@ -3,8 +3,8 @@ use Rattle.std.specs.Prelude.{ℕ, zero, suc, ◌+◌, ◌*◌, cond, List, [], 
 use Rattle.journal.specs.declared.format.KeyKind.{KeyKind}
 use Rattle.journal.specs.declared.format.RecordKind.{RecordKind}
 use Rattle.journal.specs.declared.format.RecordKind.TheVariants as kind
-use Rattle.journal.specs.declared.format.Record.{Record}
-use Rattle.journal.specs.declared.format.Record.TheVariants.{Put, Drop, Split, Advance, Open, Step, Close, Counts}
+use Rattle.requests.specs.declared.call.Call.{Call}
+use Rattle.requests.specs.declared.call.Call.TheVariants.{Put, Drop, Split, Advance, Open, Step, Close, Counts}
 use Rattle.journal.specs.declared.format.LogFault.{LogFault}
 use Rattle.journal.specs.declared.format.LogFault.TheVariants.{Unknown, Cut}
 use Rattle.keys.specs.Bytes.{number}
@@ -15,11 +15,11 @@ use Rattle.journal.specs.RecordKinds.{record_kind, body_width}
 pub data Reading : Type 0 where
   ends : Reading
   fails : LogFault → Reading
-  reads : Record → Reading → Reading
+  reads : Call ℕ → Reading → Reading
 
 -- the record of a kind whose body is the first of these bytes, and begins at this place of the log:
 -- a key is told by its place, a session is a byte, rows are a number of 8 bytes
-abbrev pub record_of : KeyKind → RecordKind → ℕ → List ℕ → Record
+abbrev pub record_of : KeyKind → RecordKind → ℕ → List ℕ → Call ℕ
 record_of keys kind.Put place body = Put place (place + key_width keys) (number 8 (2 * key_width keys) body)
 record_of keys kind.Drop place body = Drop place
 record_of keys kind.Split place body = Split place (number 8 (key_width keys) body) (number 8 (key_width keys + 8) body)
@@ -43,7 +43,7 @@ reading keys place zero (b ∷ bs) = from_kind keys place (record_kind b) bs (λ
 reading keys place (suc n) (b ∷ bs) = reading keys (place + 1) n bs
 
 -- what a reader answers first, and what it has yet to read then: at the end and at a fault it stays
-abbrev pub first_of : Reading → Result (Option Record) LogFault
+abbrev pub first_of : Reading → Result (Option (Call ℕ)) LogFault
 first_of ends = Ok None
 first_of (fails f) = Err f
 first_of (reads r rest) = Ok (Some r)
@@ -54,7 +54,7 @@ rest_of (fails f) = fails f
 rest_of (reads r rest) = rest
 
 -- how many records an answer holds, and how many a reading does: each record that is read leaves one fewer to read
-abbrev pub records_told : Result (Option Record) LogFault → ℕ
+abbrev pub records_told : Result (Option (Call ℕ)) LogFault → ℕ
 records_told (Ok None) = 0
 records_told (Ok (Some r)) = 1
 records_told (Err f) = 0

@@ -1,9 +1,8 @@
 -- The kinds of records: the first byte of a record tells its kind, and the kind how many bytes follow.
-use Rattle.std.specs.Prelude.{ℕ, ◌+◌, ◌*◌, List, [], ◌∷◌, Option}
+use Rattle.std.specs.Prelude.{ℕ, ◌+◌, ◌*◌, List, [], ◌∷◌, Option, find, ◌==◌}
 use Rattle.journal.specs.declared.format.KeyKind.{KeyKind}
 use Rattle.journal.specs.declared.format.RecordKind.{RecordKind}
 use Rattle.journal.specs.declared.format.RecordKind.TheVariants.{Put, Drop, Split, Advance, Open, Step, Close, Counts}
-use Rattle.journal.specs.Bytewise.{of_byte}
 use Rattle.journal.specs.KeyKinds.{key_width}
 
 -- the byte of each kind
@@ -22,7 +21,7 @@ record_kinds = Put ∷ Drop ∷ Split ∷ Advance ∷ Open ∷ Step ∷ Close �
 
 -- the kind that a byte stands for
 abbrev pub record_kind : ℕ → Option RecordKind
-record_kind b = of_byte kind_byte record_kinds b
+record_kind b = find (λ k. b == kind_byte k) record_kinds
 
 -- how many bytes follow the kind byte: a number of rows has 8, a session 1, a key what its kind says
 abbrev pub body_width : KeyKind → RecordKind → ℕ

@@ -1,11 +1,16 @@
 // What a log is made of: the kinds of keys and of records, the records themselves, and the faults of a log.
-ghost use Rattle.std.specs.Prelude.{◌≡◌, Some};
+ghost use Rattle.std.specs.Prelude.{◌≡◌, Some, MatchResult};
 ghost use Rattle.journal.specs.Faults.{fault_number, fault_byte, fault_shown};
 ghost use Rattle.journal.specs.KeyKinds.{key_kind, key_width};
 ghost use Rattle.journal.specs.RecordKinds.{record_kind, body_width};
+ghost use Rattle.journal.specs.Unknown.{known};
+ghost use Rattle.journal.specs.Words.{KindNamed, NoKindNamed};
 
 use keys::{Decimal, Key, Text, Whole};
+use requests::Call;
+use std::error::Error;
 use std::fmt;
+use std::str::FromStr;
 
 // The kind of a log's keys, which its first byte tells.
 #[derive(Clone, Copy, PartialEq, Eq, Debug)]
@@ -15,7 +20,7 @@ pub enum KeyKind {
     Text,
 }
 
-// The kind of a record, which its first byte tells.
+// The kind of a record, which its first byte tells. Beside the record itself, since the kind is known, and with it the width, before the rest is read.
 #[derive(Clone, Copy, PartialEq, Eq, Debug)]
 pub enum RecordKind {
     Put,
@@ -29,36 +34,17 @@ pub enum RecordKind {
 }
 
 // A record as plain numbers. A key is told by its place: the offset in the log, from 0, at which its body begins.
-#[derive(Clone, Copy, PartialEq, Eq, Debug)]
-pub enum Record {
-    Put {
-        low_at: usize,
-        high_at: usize,
-        rows: u64,
-    },
-    Drop {
-        key_at: usize,
-    },
-    Split {
-        key_at: usize,
-        lower: u64,
-        upper: u64,
-    },
-    Advance,
-    Open {
-        session: u8,
-        key_at: usize,
-    },
-    Step {
-        session: u8,
-    },
-    Close {
-        session: u8,
-    },
-    Counts,
-}
+pub type Record = Call<usize>;
 
-// Why a log cannot be read on. `at` is the offset of the kind byte in question.
+// A byte that stands for no kind.
+#[derive(Clone, Copy, PartialEq, Eq, Debug)]
+pub struct UnknownByte(pub u8);
+
+// A word that names no kind of keys.
+#[derive(Clone, Copy, PartialEq, Eq, Debug)]
+pub struct UnknownWord;
+
+// Why a log cannot be read on. `at` is the offset of the kind byte in question; it stands in each case, since a promise names each case with its values.
 #[derive(Clone, Copy, PartialEq, Eq, Debug)]
 pub enum LogFault {
     // The byte stands for no kind.
@@ -67,19 +53,37 @@ pub enum LogFault {
     Cut { at: usize },
 }
 
-impl KeyKind {
-    // The kind that a byte stands for.
-    pub fn of(byte: u8) -> Option<KeyKind>
-        ensures { result ≡ key_kind byte }
-    {
+impl TryFrom<u8> for KeyKind {
+    type Error = UnknownByte;
+
+    ghost try_from_gives = { known key_kind };
+
+    fn try_from(byte: u8) -> Result<KeyKind, UnknownByte> {
         match byte {
-            1 => Some(KeyKind::Whole),
-            2 => Some(KeyKind::Decimal),
-            3 => Some(KeyKind::Text),
-            _ => None,
+            1 => Ok(KeyKind::Whole),
+            2 => Ok(KeyKind::Decimal),
+            3 => Ok(KeyKind::Text),
+            _ => Err(UnknownByte(byte)),
         }
     }
+}
 
+impl FromStr for KeyKind {
+    type Err = UnknownWord;
+
+    ghost from_str_gives = { λ word result. MatchResult result (λ k. KindNamed word k) (λ _. NoKindNamed word) };
+
+    fn from_str(word: &str) -> Result<KeyKind, UnknownWord> {
+        match word {
+            "whole" => Ok(KeyKind::Whole),
+            "decimal" => Ok(KeyKind::Decimal),
+            "text" => Ok(KeyKind::Text),
+            _ => Err(UnknownWord),
+        }
+    }
+}
+
+impl KeyKind {
     // How many bytes the body of a key has.
     pub fn width(self) -> usize
         ensures { result ≡ key_width self }
@@ -92,24 +96,27 @@ impl KeyKind {
     }
 }
 
-impl RecordKind {
-    // The kind that a byte stands for.
-    pub fn of(byte: u8) -> Option<RecordKind>
-        ensures { result ≡ record_kind byte }
-    {
+impl TryFrom<u8> for RecordKind {
+    type Error = UnknownByte;
+
+    ghost try_from_gives = { known record_kind };
+
+    fn try_from(byte: u8) -> Result<RecordKind, UnknownByte> {
         match byte {
-            1 => Some(RecordKind::Put),
-            2 => Some(RecordKind::Drop),
-            3 => Some(RecordKind::Split),
-            4 => Some(RecordKind::Advance),
-            5 => Some(RecordKind::Open),
-            6 => Some(RecordKind::Step),
-            7 => Some(RecordKind::Close),
-            8 => Some(RecordKind::Counts),
-            _ => None,
+            1 => Ok(RecordKind::Put),
+            2 => Ok(RecordKind::Drop),
+            3 => Ok(RecordKind::Split),
+            4 => Ok(RecordKind::Advance),
+            5 => Ok(RecordKind::Open),
+            6 => Ok(RecordKind::Step),
+            7 => Ok(RecordKind::Close),
+            8 => Ok(RecordKind::Counts),
+            _ => Err(UnknownByte(byte)),
         }
     }
+}
 
+impl RecordKind {
     // How many bytes follow the kind byte.
     pub fn body_width(self, keys: KeyKind) -> usize
         ensures { result ≡ body_width keys self }
@@ -146,6 +153,8 @@ impl LogFault {
         }
     }
 }
+
+impl Error for LogFault {}
 
 impl fmt::Display for LogFault {
     ghost output = { λ e. Some (fault_shown e) };

@@ -22,27 +22,27 @@ fn reads_the_example(rt: HostRuntime) -> Result<(), Fail> {
     assert_eq!(rt; reader.key_kind(), KeyKind::Whole);
     let records = [
         Record::Put {
-            low_at: 2,
-            high_at: 10,
+            low: 2,
+            high: 10,
             rows: 5,
         },
         Record::Put {
-            low_at: 27,
-            high_at: 35,
+            low: 27,
+            high: 35,
             rows: 7,
         },
         Record::Advance,
         Record::Open {
             session: 0,
-            key_at: 54,
+            key: 54,
         },
         Record::Step { session: 0 },
-        Record::Drop { key_at: 65 },
+        Record::Drop { key: 65 },
         Record::Step { session: 0 },
         Record::Counts,
         Record::Close { session: 0 },
         Record::Counts,
-        Record::Drop { key_at: 80 },
+        Record::Drop { key: 80 },
         Record::Advance,
     ];
     for record in records {

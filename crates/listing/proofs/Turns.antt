@@ -1,53 +1,59 @@
 -- One turn of the listing, and how many records a log can have.
-use Rattle.std.proofs.Common.{◌≡◌, ℕ, zero, suc, ◌+◌, ◌≤◌, Bool, true, false, cond, ltb, List, [], ◌∷◌, ◌++◌, length, IfOk, Some, None, Ok, Option, Result, refl, ap, ◌∙◌, append_assoc, arith}
+use Rattle.std.proofs.Common.{◌≡◌, ℕ, zero, suc, ◌+◌, ◌≤◌, Bool, true, false, cond, ltb, List, [], ◌∷◌, ◌++◌, length, IfOk, Some, None, Ok, Err, Option, Result, refl, ap, ◌∙◌, append_assoc, arith}
 use Rattle.std.proofs.lemmas.Result.{IfOk-weaker}
 use Rattle.journal.specs.declared.format.KeyKind.{KeyKind}
 use Rattle.journal.specs.declared.format.LogFault.{LogFault}
-use Rattle.journal.specs.declared.format.Record.{Record}
-use Rattle.journal.specs.declared.format.Record.TheVariants.{Put, Drop, Split, Advance, Open, Step, Close, Counts}
+use Rattle.requests.specs.declared.call.Call.{Call}
+use Rattle.requests.specs.declared.call.Call.TheVariants.{Put, Drop, Split, Advance, Open, Step, Close, Counts}
 use Rattle.journal.specs.declared.format.RecordKind.{RecordKind}
 use Rattle.journal.specs.KeyKinds.{key_kind}
 use Rattle.journal.specs.RecordKinds.{record_kind, body_width}
-use Rattle.journal.specs.Readings.{Reading, ends, fails, reads, first_of, rest_of, records_left, reading, from_kind, holds, from_key_kind, log_reading}
+use Rattle.journal.specs.Readings.{Reading, ends, fails, reads, records_left, reading, from_kind, holds, from_key_kind, log_reading}
 use Rattle.listing.specs.declared.tally.Tally.{Tally}
 use Rattle.listing.specs.Tallies.{total, counted}
-use Rattle.listing.specs.Listings.{all_lines, record_line, closing_line}
+use Rattle.journal.specs.Faults.{fault_shown}
+use Rattle.journal.specs.Records.{answers}
+use Rattle.listing.specs.Listings.{newline, all_lines, record_line, closing_line}
 
 never : {P : Type 0} → ◌≡◌ {A = ℕ} 0 1 → P
 never e = let w : ⊥ = omega arith in elim w [ ]
 
--- the lines before and after a record is read
-read_more : (keys : KeyKind) (log : List ℕ) (n : ℕ) (t : Tally) (x : Reading) (r : Record) (out : List ℕ) →
-    ◌≡◌ {A = Result (Option Record) LogFault} (Ok (Some r)) (first_of x) →
-    (out ++ record_line keys log (n + 1) r) ++ all_lines keys log (n + 1) (counted r t) (rest_of x) ≡ out ++ all_lines keys log n t x
-read_more keys log n t ends r out e = never (cc)
-read_more keys log n t (fails f) r out e = never (cc)
-read_more keys log n t (reads q rest) r out e =
-    let same : r ≡ q = cc in
-    append_assoc out (record_line keys log (n + 1) r) (all_lines keys log (n + 1) (counted r t) rest)
-    ∙ ap (λ k. out ++ (record_line keys log (n + 1) k ++ all_lines keys log (n + 1) (counted k t) rest)) same
+-- the lines of what a log tells, after n records with these counts
+abbrev pub lines_of : KeyKind → List ℕ → ℕ → Tally → List (Result (Call ℕ) LogFault) → List ℕ
+lines_of keys log n t [] = closing_line n t
+lines_of keys log n t (Err f ∷ more) = fault_shown f ++ newline
+lines_of keys log n t (Ok r ∷ more) = record_line keys log (n + 1) r ++ lines_of keys log (n + 1) (counted r t) more
 
-pub one_more : (keys : KeyKind) (log : List ℕ) (n : ℕ) (t u : Tally) (x y : Reading) (r : Record) (out more : List ℕ) →
-    ◌≡◌ {A = Result (Option Record) LogFault} (Ok (Some r)) (first_of x) → u ≡ counted r t → y ≡ rest_of x → more ≡ out ++ record_line keys log (n + 1) r →
-    more ++ all_lines keys log (n + 1) u y ≡ out ++ all_lines keys log n t x
-one_more keys log n t u x y r out more e eu ey em =
-    ap (λ l. l ++ all_lines keys log (n + 1) u y) em
-    ∙ ap (λ v. (out ++ record_line keys log (n + 1) r) ++ all_lines keys log (n + 1) v y) eu
-    ∙ ap (λ z. (out ++ record_line keys log (n + 1) r) ++ all_lines keys log (n + 1) (counted r t) z) ey
-    ∙ read_more keys log n t x r out e
+pub lines_told : (keys : KeyKind) (log : List ℕ) (n : ℕ) (t : Tally) (x : Reading) → lines_of keys log n t (answers x) ≡ all_lines keys log n t x
+lines_told keys log n t ends = refl
+lines_told keys log n t (fails f) = refl
+lines_told keys log n t (reads r rest) = ap (λ l. record_line keys log (n + 1) r ++ l) (lines_told keys log (n + 1) (counted r t) rest)
+
+-- a fault may be told beside the records
+pub few_answers : (x : Reading) → length (answers x) ≤ records_left x + 1
+few_answers ends = omega arith
+few_answers (fails f) = omega arith
+few_answers (reads r rest) = omega (arith, few_answers rest)
+
+-- the lines before and after a record is read
+pub one_more : (keys : KeyKind) (log : List ℕ) (n m : ℕ) (t u : Tally) (told more : List (Result (Call ℕ) LogFault)) (a : Result (Call ℕ) LogFault) (r : Call ℕ) (out now : List ℕ) →
+    told ≡ a ∷ more → a ≡ Ok r → m ≡ n + 1 → u ≡ counted r t → now ≡ out ++ record_line keys log (n + 1) r →
+    now ++ lines_of keys log m u more ≡ out ++ lines_of keys log n t told
+one_more keys log n m t u told more a r out now ea er em eu en =
+    rw (en, em, eu, ea, er) (append_assoc out (record_line keys log (n + 1) r) (lines_of keys log (n + 1) (counted r t) more))
+
+pub at_fault : (keys : KeyKind) (log : List ℕ) (n : ℕ) (t : Tally) (told more : List (Result (Call ℕ) LogFault)) (a : Result (Call ℕ) LogFault) (f : LogFault) →
+    told ≡ a ∷ more → a ≡ Err f → lines_of keys log n t told ≡ fault_shown f ++ newline
+at_fault keys log n t told more a f ea ef = rw (ea, ef) refl
+
+pub one_fewer : (told more : List (Result (Call ℕ) LogFault)) (a : Result (Call ℕ) LogFault) → told ≡ a ∷ more → length told ≡ length more + 1
+one_fewer told more a e = rw e (omega arith)
 
 -- what a writing made, under another name
 pub made_as : {X Y : Type 0} (r : Result X Y) (a b d : List ℕ) → b ≡ d → IfOk r (λ _. a ≡ b) → IfOk r (λ _. a ≡ d)
 made_as r a b d e h = IfOk-weaker r (λ _. a ≡ b) (λ _. a ≡ d) (λ _ p. p ∙ e) h
 
--- the last line
-pub at_end : (keys : KeyKind) (log : List ℕ) (n : ℕ) (t : Tally) (x : Reading) →
-    ◌≡◌ {A = Result (Option Record) LogFault} (Ok None) (first_of x) → all_lines keys log n t x ≡ closing_line n t
-at_end keys log n t ends e = refl
-at_end keys log n t (fails f) e = never (cc)
-at_end keys log n t (reads q rest) e = never (cc)
-
-pub total_counted : (r : Record) (t : Tally) → total (counted r t) ≡ total t + 1
+pub total_counted : (r : Call ℕ) (t : Tally) → total (counted r t) ≡ total t + 1
 total_counted (Put low high rows) t = omega arith
 total_counted (Drop place) t = omega arith
 total_counted (Split place lower upper) t = omega arith
@@ -58,7 +64,7 @@ total_counted (Close session) t = omega arith
 total_counted Counts t = omega arith
 
 -- how many records follow a kind byte
-few_after : (b : Bool) (f : LogFault) (r : Record) (rest : Reading) (n : ℕ) → records_left rest ≤ n → records_left (cond b (fails f) (reads r rest)) ≤ n + 1
+few_after : (b : Bool) (f : LogFault) (r : Call ℕ) (rest : Reading) (n : ℕ) → records_left rest ≤ n → records_left (cond b (fails f) (reads r rest)) ≤ n + 1
 few_after true f r rest n h = omega arith
 few_after false f r rest n h = omega arith
 

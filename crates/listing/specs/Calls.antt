@@ -2,8 +2,8 @@
 use Rattle.std.specs.Prelude.{ℕ, List, Some, None, Option}
 use Rattle.journal.specs.declared.format.KeyKind.{KeyKind}
 use Rattle.journal.specs.declared.format.KeyKind.TheVariants as kind
-use Rattle.journal.specs.declared.format.Record.{Record}
-use Rattle.journal.specs.declared.format.Record.TheVariants as record_of
+use Rattle.requests.specs.declared.call.Call.{Call}
+use Rattle.requests.specs.Keys.{map_keys}
 use Rattle.journal.specs.KeyKinds.{key_width}
 use Rattle.journal.specs.Entries.{key_at}
 use Rattle.keys.specs.Wholes.{whole_of}
@@ -13,8 +13,6 @@ use Rattle.listing.specs.declared.call.AnyFault.{AnyFault}
 use Rattle.listing.specs.declared.call.AnyFault.TheVariants as faulty
 use Rattle.listing.specs.declared.call.AnyKey.{AnyKey}
 use Rattle.listing.specs.declared.call.AnyKey.TheVariants.{Whole, Decimal, Text}
-use Rattle.listing.specs.declared.call.Call.{Call}
-use Rattle.listing.specs.declared.call.Call.TheVariants.{Put, Drop, Split, Advance, Open, Step, Close, Counts}
 
 -- the key of a kind whose body these bytes are
 abbrev pub key_of : KeyKind → List ℕ → AnyKey
@@ -37,12 +35,5 @@ any_fault (Decimal k) = as_any faulty.Decimal (decimal_fault k)
 any_fault (Text k) = as_any faulty.Text (text_fault k)
 
 -- the call that a record asks for
-abbrev pub call_of : KeyKind → List ℕ → Record → Call
-call_of keys log (record_of.Put low high rows) = Put (key_at_place keys log low) (key_at_place keys log high) rows
-call_of keys log (record_of.Drop place) = Drop (key_at_place keys log place)
-call_of keys log (record_of.Split place lower upper) = Split (key_at_place keys log place) lower upper
-call_of keys log record_of.Advance = Advance
-call_of keys log (record_of.Open session place) = Open session (key_at_place keys log place)
-call_of keys log (record_of.Step session) = Step session
-call_of keys log (record_of.Close session) = Close session
-call_of keys log record_of.Counts = Counts
+abbrev pub call_of : KeyKind → List ℕ → Call ℕ → Call AnyKey
+call_of keys log = map_keys (key_at_place keys log)

@@ -7,8 +7,8 @@ use Rattle.listing.specs.declared.call.AnyFault.{AnyFault}
 use Rattle.listing.specs.declared.call.AnyFault.TheVariants as faulty
 use Rattle.listing.specs.declared.call.AnyKey.{AnyKey}
 use Rattle.listing.specs.declared.call.AnyKey.TheVariants.{Whole, Decimal, Text}
-use Rattle.listing.specs.declared.call.Call.{Call}
-use Rattle.listing.specs.declared.call.Call.TheVariants as call
+use Rattle.requests.specs.declared.call.Call.{Call}
+use Rattle.requests.specs.declared.call.Call.TheVariants as call
 use Rattle.listing.specs.Calls.{any_fault}
 
 -- a key as its kind prints it
@@ -33,7 +33,7 @@ abbrev pub key_note : AnyKey → List ℕ
 key_note key = note_shown (codes "key") key
 
 -- the record's name, its fields, and the notes on its keys
-abbrev pub call_shown : Call → List ℕ
+abbrev pub call_shown : Call AnyKey → List ℕ
 call_shown (call.Put low high rows) =
     codes "put " ++ (key_shown low ++ (codes " " ++ (key_shown high ++ (codes " " ++ (decimal rows ++ (note_shown (codes "low") low ++ note_shown (codes "high") high))))))
 call_shown (call.Drop key) = codes "drop " ++ (key_shown key ++ key_note key)

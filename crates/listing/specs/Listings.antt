@@ -1,7 +1,7 @@
 -- What is printed of a whole log.
 use Rattle.std.specs.Prelude.{ℕ, ◌+◌, List, [], ◌∷◌, ◌++◌, codes, decimal}
 use Rattle.journal.specs.declared.format.KeyKind.{KeyKind}
-use Rattle.journal.specs.declared.format.Record.{Record}
+use Rattle.requests.specs.declared.call.Call.{Call}
 use Rattle.journal.specs.Faults.{fault_shown}
 use Rattle.journal.specs.Readings.{Reading, ends, fails, reads, Log, refused, holds, log_reading}
 use Rattle.listing.specs.declared.tally.Tally.{Tally}
@@ -14,7 +14,7 @@ abbrev pub newline : List ℕ
 newline = 10 ∷ []
 
 -- the line of the record with this number
-abbrev pub record_line : KeyKind → List ℕ → ℕ → Record → List ℕ
+abbrev pub record_line : KeyKind → List ℕ → ℕ → Call ℕ → List ℕ
 record_line keys log number r = decimal number ++ (codes " " ++ (call_shown (call_of keys log r) ++ newline))
 
 -- the line behind the last record

@@ -1,7 +1,7 @@
 -- How many records of each kind a log has.
 use Rattle.std.specs.Prelude.{ℕ, ◌+◌, List, ◌++◌, codes, decimal}
-use Rattle.journal.specs.declared.format.Record.{Record}
-use Rattle.journal.specs.declared.format.Record.TheVariants.{Put, Drop, Split, Advance, Open, Step, Close, Counts}
+use Rattle.requests.specs.declared.call.Call.{Call}
+use Rattle.requests.specs.declared.call.Call.TheVariants.{Put, Drop, Split, Advance, Open, Step, Close, Counts}
 use Rattle.listing.specs.declared.tally.Tally.{Tally}
 
 abbrev pub tally : ℕ → ℕ → ℕ → ℕ → ℕ → ℕ → ℕ → ℕ → Tally
@@ -11,7 +11,7 @@ abbrev pub none_counted : Tally
 none_counted = tally 0 0 0 0 0 0 0 0
 
 -- one record more of its kind
-abbrev pub counted : Record → Tally → Tally
+abbrev pub counted : Call ℕ → Tally → Tally
 counted (Put low high rows) t = tally (t.puts + 1) t.drops t.splits t.advances t.opens t.steps t.closes t.counts
 counted (Drop place) t = tally t.puts (t.drops + 1) t.splits t.advances t.opens t.steps t.closes t.counts
 counted (Split place lower upper) t = tally t.puts t.drops (t.splits + 1) t.advances t.opens t.steps t.closes t.counts

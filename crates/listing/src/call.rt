@@ -1,16 +1,18 @@
 // The records of a log with their keys read, and how they are printed.
 ghost use Rattle.std.specs.Prelude.{◌≡◌, length, Some};
 ghost use Rattle.journal.specs.KeyKinds.{key_width};
-ghost use Rattle.journal.specs.Readers.{KeyInside, KeysInside};
+ghost use Rattle.journal.specs.Readers.{log_of, keys_of, KeyInside, KeysInside};
+ghost use Rattle.listing.specs.declared.call.AnyKey.TheVariants as kind;
 ghost use Rattle.listing.specs.Calls.{key_at_place, any_fault, call_of};
 ghost use Rattle.listing.specs.Lines.{any_fault_shown, key_shown, note_shown, call_shown};
 
-use journal::{KeyKind, Record};
+use journal::{KeyKind, Reader, Record};
 use keys::{Decimal, DecimalFault, Key, Ordered, Text, TextFault, Whole};
+use requests::Call;
 use std::fmt;
 
-// A key of the kind that its log has.
-#[derive(Clone, Copy)]
+// A key of the kind that its log has. Beside `KeyKind`, which says the kind where there is no key yet.
+#[derive(Clone, Copy, PartialEq, Eq, Debug)]
 pub enum AnyKey {
     Whole(Whole),
     Decimal(Decimal),
@@ -18,23 +20,47 @@ pub enum AnyKey {
 }
 
 // The fault of such a key; whole keys have none.
-#[derive(Clone, Copy)]
+#[derive(Clone, Copy, PartialEq, Eq, Debug)]
 pub enum AnyFault {
     Decimal(DecimalFault),
     Text(TextFault),
 }
 
+impl From<Whole> for AnyKey {
+    ghost from_gives = { λ key any. any ≡ kind.Whole key };
+
+    fn from(key: Whole) -> AnyKey {
+        AnyKey::Whole(key)
+    }
+}
+
+impl From<Decimal> for AnyKey {
+    ghost from_gives = { λ key any. any ≡ kind.Decimal key };
+
+    fn from(key: Decimal) -> AnyKey {
+        AnyKey::Decimal(key)
+    }
+}
+
+impl From<Text> for AnyKey {
+    ghost from_gives = { λ key any. any ≡ kind.Text key };
+
+    fn from(key: Text) -> AnyKey {
+        AnyKey::Text(key)
+    }
+}
+
 impl AnyKey {
     // The key whose body begins at a place of the log.
-    fn at(keys: KeyKind, log: &[u8], place: usize) -> AnyKey
-        requires { KeyInside (length log.now) (key_width keys) place }
-        ensures { result ≡ key_at_place keys log.now place }
+    fn at(log: &Reader, place: usize) -> AnyKey
+        requires { KeyInside (length (log_of log.now)) (key_width (keys_of log.now)) place }
+        ensures { result ≡ key_at_place (keys_of log.now) (log_of log.now) place }
     {
-        let body = &log[place..place + keys.width()];
-        match keys {
-            KeyKind::Whole => AnyKey::Whole(Whole::read_body(body)),
-            KeyKind::Decimal => AnyKey::Decimal(Decimal::read_body(body)),
-            KeyKind::Text => AnyKey::Text(Text::read_body(body)),
+        let body = log.body_at(place);
+        match log.key_kind() {
+            KeyKind::Whole => Whole::read_body(body).into(),
+            KeyKind::Decimal => Decimal::read_body(body).into(),
+            KeyKind::Text => Text::read_body(body).into(),
         }
     }
 
@@ -44,14 +70,8 @@ impl AnyKey {
     {
         match self {
             AnyKey::Whole(_) => None,
-            AnyKey::Decimal(key) => match key.check() {
-                Ok(()) => None,
-                Err(fault) => Some(AnyFault::Decimal(fault)),
-            },
-            AnyKey::Text(key) => match key.check() {
-                Ok(()) => None,
-                Err(fault) => Some(AnyFault::Text(fault)),
-            },
+            AnyKey::Decimal(key) => key.check().err().map(AnyFault::Decimal),
+            AnyKey::Text(key) => key.check().err().map(AnyFault::Text),
         }
     }
 }
@@ -106,81 +126,25 @@ impl fmt::Display for Note<'_> {
     }
 }
 
-// A record with its keys read: the call that it asks for.
-#[derive(Clone, Copy)]
-pub enum Call {
-    Put {
-        low: AnyKey,
-        high: AnyKey,
-        rows: u64,
-    },
-    Drop {
-        key: AnyKey,
-    },
-    Split {
-        key: AnyKey,
-        lower: u64,
-        upper: u64,
-    },
-    Advance,
-    Open {
-        session: u8,
-        key: AnyKey,
-    },
-    Step {
-        session: u8,
-    },
-    Close {
-        session: u8,
-    },
-    Counts,
-}
+// A record with its keys read: the call that it asks for, as a line tells it.
+#[derive(Clone, Copy, PartialEq, Eq, Debug)]
+pub struct Request(pub Call<AnyKey>);
 
-impl Call {
-    // The call of a record, whose keys lie whole in the log.
-    pub(crate) fn of(keys: KeyKind, log: &[u8], record: &Record) -> Call
-        requires { KeysInside (length log.now) (key_width keys) «record».now }
-        ensures { result ≡ call_of keys log.now «record».now }
+impl Request {
+    // The request of a record, whose keys lie whole in the log.
+    pub(crate) fn of(log: &Reader, record: Record) -> Request
+        requires { KeysInside (length (log_of log.now)) (key_width (keys_of log.now)) «record» }
+        ensures { result.0 ≡ call_of (keys_of log.now) (log_of log.now) «record» }
     {
-        match *record {
-            Record::Put {
-                low_at,
-                high_at,
-                rows,
-            } => Call::Put {
-                low: AnyKey::at(keys, log, low_at),
-                high: AnyKey::at(keys, log, high_at),
-                rows,
-            },
-            Record::Drop { key_at } => Call::Drop {
-                key: AnyKey::at(keys, log, key_at),
-            },
-            Record::Split {
-                key_at,
-                lower,
-                upper,
-            } => Call::Split {
-                key: AnyKey::at(keys, log, key_at),
-                lower,
-                upper,
-            },
-            Record::Advance => Call::Advance,
-            Record::Open { session, key_at } => Call::Open {
-                session,
-                key: AnyKey::at(keys, log, key_at),
-            },
-            Record::Step { session } => Call::Step { session },
-            Record::Close { session } => Call::Close { session },
-            Record::Counts => Call::Counts,
-        }
+        Request(record.map(|place| AnyKey::at(log, place)))
     }
 }
 
-impl fmt::Display for Call {
-    ghost output = { λ c. Some (call_shown c) };
+impl fmt::Display for Request {
+    ghost output = { λ r. Some (call_shown r.0) };
 
     fn fmt<W: fmt::Write>(&self, f: &mut fmt::Formatter<W>) -> fmt::Result {
-        match self {
+        match &self.0 {
             Call::Put { low, high, rows } => {
                 let first = Note::new("low", low);
                 let second = Note::new("high", high);

@@ -5,6 +5,6 @@ mod call;
 mod lines;
 mod tally;
 
-pub use call::{AnyFault, AnyKey, Call, Note};
+pub use call::{AnyFault, AnyKey, Note, Request};
 pub use lines::list;
 pub use tally::Tally;

@@ -5,32 +5,28 @@ ghost use Rattle.journal.specs.Readings.{records_left};
 ghost use Rattle.listing.specs.Tallies.{none_counted};
 ghost use Rattle.listing.specs.Listings.{all_lines, listed};
 
-use crate::call::Call;
+use crate::call::Request;
 use crate::tally::Tally;
 use journal::Reader;
 use std::alloc::{AllocError, Global};
 use std::fmt;
 
 // Adds a line for each record, then a closing line, or that of the log's fault.
-fn list_records(out: &mut String, mut reader: Reader, log: &[u8]) -> Result<(), AllocError>
-    requires same { log_of reader ≡ log.now }
-    requires few { records_left (left reader) ≤ length log.now }
-    ensures { OnOk result (string_bytes out.new ≡ string_bytes out.old ++ all_lines (keys_of reader.entry) log.now 0 none_counted (left reader.entry)) }
+fn list_records(out: &mut String, reader: Reader) -> Result<(), AllocError>
+    requires { records_left (left reader) ≤ length (log_of reader) }
+    ensures { OnOk result (string_bytes out.new ≡ string_bytes out.old ++ all_lines (keys_of reader.entry) (log_of reader.entry) 0 none_counted (left reader.entry)) }
 {
-    let mut tally = Tally::new();
-    let mut number = 0usize;
-    loop {
-        match reader.next() {
-            Ok(Some(record)) => {
-                number += 1;
+    let mut tally = Tally::default();
+    for (before, answer) in reader.records().enumerate() {
+        match answer {
+            Ok(record) => {
                 tally.add(&record);
-                let call = Call::of(reader.key_kind(), log, &record);
-                writeln!(out, "{number} {call}")?;
+                writeln!(out, "{} {}", before + 1, Request::of(&reader, record))?;
             }
-            Ok(None) => return writeln!(out, "{number} records: {tally}"),
             Err(fault) => return writeln!(out, "{fault}"),
         }
     }
+    writeln!(out, "{} records: {tally}", tally.total())
 }
 
 // What a log asks for: a line a record with its number, then a line that counts them by kind.
@@ -40,8 +36,8 @@ pub fn list(heap: Global, log: &[u8]) -> Result<String, fmt::Error>
 {
     let mut out = String::new(heap);
     match Reader::new(log) {
-        Ok(reader) => list_records(&mut out, reader, log).map_err(fmt::Error::from)?,
-        Err(fault) => writeln!(out, "{fault}").map_err(fmt::Error::from)?,
+        Ok(reader) => list_records(&mut out, reader)?,
+        Err(fault) => writeln!(out, "{fault}")?,
     }
     Ok(out)
 }

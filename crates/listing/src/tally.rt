@@ -1,11 +1,11 @@
 // How many records of each kind were read.
-ghost use Rattle.std.specs.Prelude.{◌≡◌, ◌<◌, Some};
-ghost use Rattle.listing.specs.Tallies.{none_counted, counted, total, tally_shown};
+ghost use Rattle.std.specs.Prelude.{◌≡◌, ◌<◌, ◌^◌, Some};
+ghost use Rattle.listing.specs.Tallies.{counted, total, tally_shown};
 
 use journal::Record;
 use std::fmt;
 
-#[derive(Clone, Copy)]
+#[derive(Clone, Copy, Default)]
 pub struct Tally {
     puts: usize,
     drops: usize,
@@ -18,21 +18,6 @@ pub struct Tally {
 }
 
 impl Tally {
-    pub(crate) fn new() -> Tally
-        ensures { result ≡ none_counted }
-    {
-        Tally {
-            puts: 0,
-            drops: 0,
-            splits: 0,
-            advances: 0,
-            opens: 0,
-            steps: 0,
-            closes: 0,
-            counts: 0,
-        }
-    }
-
     // One record more of its kind.
     pub(crate) fn add(&mut self, record: &Record)
         requires { total self.old < 18446744073709551615 }
@@ -48,6 +33,21 @@ impl Tally {
             Record::Close { .. } => self.closes += 1,
             Record::Counts => self.counts += 1,
         }
+    }
+
+    // All records together.
+    pub(crate) fn total(&self) -> usize
+        requires { total self.now < 2 ^ 64 }
+        ensures { result ≡ total self.now }
+    {
+        self.puts
+            + self.drops
+            + self.splits
+            + self.advances
+            + self.opens
+            + self.steps
+            + self.closes
+            + self.counts
     }
 }
 

@@ -1,8 +1,8 @@
 // What the words of the command line ask for.
-ghost use Rattle.std.specs.Prelude.{◌≡◌, MatchOption};
-ghost use Rattle.rangecat.specs.Words.{Names, NoneNamed, KindNamed, NoKindNamed};
+ghost use Rattle.std.specs.Prelude.{MatchResult};
+ghost use Rattle.rangecat.specs.Words.{Names, NoneNamed};
 
-use journal::KeyKind;
+use std::str::FromStr;
 
 #[derive(Clone, Copy, PartialEq, Eq, Debug)]
 pub enum Command {
@@ -11,28 +11,21 @@ pub enum Command {
     Dump,
 }
 
-impl Command {
-    // The command that a word names.
-    pub fn of(word: &str) -> Option<Command>
-        ensures { MatchOption result (NoneNamed word.now) (λ c. Names word.now c) }
-    {
-        match word {
-            "--help" | "-h" | "help" => Some(Command::Help),
-            "list" => Some(Command::List),
-            "dump" => Some(Command::Dump),
-            _ => None,
-        }
-    }
-}
+// A word that names no command.
+#[derive(Clone, Copy, PartialEq, Eq, Debug)]
+pub struct UnknownCommand;
 
-// The kind of keys that a word names.
-pub fn kind_of(word: &str) -> Option<KeyKind>
-    ensures { MatchOption result (NoKindNamed word.now) (λ k. KindNamed word.now k) }
-{
-    match word {
-        "whole" => Some(KeyKind::Whole),
-        "decimal" => Some(KeyKind::Decimal),
-        "text" => Some(KeyKind::Text),
-        _ => None,
+impl FromStr for Command {
+    type Err = UnknownCommand;
+
+    ghost from_str_gives = { λ word result. MatchResult result (λ c. Names word c) (λ _. NoneNamed word) };
+
+    fn from_str(word: &str) -> Result<Command, UnknownCommand> {
+        match word {
+            "--help" | "-h" | "help" => Ok(Command::Help),
+            "list" => Ok(Command::List),
+            "dump" => Ok(Command::Dump),
+            _ => Err(UnknownCommand),
+        }
     }
 }

@@ -4,7 +4,7 @@
 mod command;
 
 use anyhow::anyhow;
-use command::{Command, kind_of};
+use command::Command;
 use dumping::dump;
 use journal::KeyKind;
 use keys::{Decimal, Text, Whole};
@@ -43,10 +43,8 @@ fn read_input(rt: &HostRuntime, most: u64) -> anyhow::Result<Vec<u8>> {
 
 fn print_list(rt: &HostRuntime) -> anyhow::Result<()> {
     let log = read_input(rt, MOST_LOG)?;
-    match list(rt.alloc(), &log) {
-        Ok(lines) => Ok(print!(rt; "{lines}")?),
-        Err(_) => Err(anyhow!("out of memory")),
-    }
+    let lines = list(rt.alloc(), &log).map_err(|_| anyhow!("out of memory"))?;
+    Ok(print!(rt; "{lines}")?)
 }
 
 fn print_dump(rt: &HostRuntime, kind: KeyKind) -> anyhow::Result<()> {
@@ -59,10 +57,8 @@ fn print_dump(rt: &HostRuntime, kind: KeyKind) -> anyhow::Result<()> {
         KeyKind::Decimal => dump(rt.alloc(), &ByteStore::<Decimal>::new(&mut image)),
         KeyKind::Text => dump(rt.alloc(), &ByteStore::<Text>::new(&mut image)),
     };
-    match text {
-        Ok(lines) => Ok(print!(rt; "{lines}")?),
-        Err(_) => Err(anyhow!("out of memory")),
-    }
+    let lines = text.map_err(|_| anyhow!("out of memory"))?;
+    Ok(print!(rt; "{lines}")?)
 }
 
 fn unknown(rt: &HostRuntime, what: &str, word: &str) -> anyhow::Result<()> {
@@ -79,18 +75,18 @@ fn run(rt: &HostRuntime) -> anyhow::Result<()> {
     if words.next().is_some() {
         return Err(anyhow!("too many words; see rangecat --help"));
     }
-    match (Command::of(word.as_str()), second) {
-        (None, _) => unknown(rt, "word", word.as_str()),
-        (Some(Command::Dump), None) => Err(anyhow!(
-            "dump takes a kind of keys: whole, decimal or text"
-        )),
-        (Some(Command::Dump), Some(name)) => match kind_of(name.as_str()) {
-            Some(kind) => print_dump(rt, kind),
-            None => unknown(rt, "kind of keys", name.as_str()),
+    let Ok(command) = word.parse::<Command>() else {
+        return unknown(rt, "word", word.as_str());
+    };
+    match (command, second) {
+        (Command::Dump, None) => Err(anyhow!("dump takes a kind of keys: whole, decimal or text")),
+        (Command::Dump, Some(name)) => match name.parse::<KeyKind>() {
+            Ok(kind) => print_dump(rt, kind),
+            Err(_) => unknown(rt, "kind of keys", name.as_str()),
         },
-        (Some(_), Some(_)) => Err(anyhow!("too many words; see rangecat --help")),
-        (Some(Command::Help), None) => Ok(print!(rt; "{HELP}")?),
-        (Some(Command::List), None) => print_list(rt),
+        (_, Some(_)) => Err(anyhow!("too many words; see rangecat --help")),
+        (Command::Help, None) => Ok(print!(rt; "{HELP}")?),
+        (Command::List, None) => print_list(rt),
     }
 }
 

@@ -8,10 +8,8 @@ fn list_all(rt: &HostRuntime) -> anyhow::Result<()> {
     for name in env::args(rt)?.skip(1) {
         let log = fs::read(rt, name.as_str())?;
         println!(rt; "== {name}")?;
-        match listing::list(rt.alloc(), &log) {
-            Ok(lines) => print!(rt; "{lines}")?,
-            Err(_) => return Err(anyhow!("out of memory")),
-        }
+        let lines = listing::list(rt.alloc(), &log).map_err(|_| anyhow!("out of memory"))?;
+        print!(rt; "{lines}")?;
     }
     Ok(())
 }

@@ -1,36 +1,54 @@
-use Rattle.std.proofs.Common.{◌≡◌, rules, ◌+◌, ◌<◌, ◌++◌, length, string_bytes, ap, ◌∙◌, arith}
+use Rattle.std.proofs.Common.{◌≡◌, rules, ◌+◌, ◌<◌, ◌≤◌, ◌++◌, length, string_bytes, ap, ◌∙◌, arith}
 use Rattle.store.specs.Cells.{count_answer, mark_of, cell_at}
-use Rattle.dumping.specs.Marks.{all_marked}
-use Rattle.dumping.specs.Dumps.{cell_line, cell_lines, counted}
+use Rattle.dumping.specs.Marks.{none_marked, all_marked}
+use Rattle.dumping.specs.Dumps.{cell_lines, counted, totals_line}
 use Rattle.dumping.proofs.Cells.{lines_more, counted_more, all_more, at_end}
 use Rattle.dumping.proofs.sweep.dump.Goals as goal
+use Rattle.dumping.proofs.sweep.dump.Goals.{else-loop-n-test, then-loop-n-test+in_ok-dump_cell+else-n-n-end}
 
-pub loop-i-init : goal.loop-i-init
+pub loop-n-init : goal.loop-n-init
 unfolding count_answer
-loop-i-init g c =
-    let cs = g.S.Store.cells c.args.store.now in (
+loop-n-init g c =
+    let cs = g.S.Store.cells c.args.store.now in
+    let none : c.default-totals.result ≡ none_marked = search rules in (
       ap (λ l. l ++ cell_lines g.K.Printable.held 1 cs) c.new-out.ensures.bytes,
-      ap (λ t. counted t cs) c.new-totals.ensures,
-      ap all_marked c.new-totals.ensures,
+      ap (λ t. counted t cs) none,
+      ap (λ t. all_marked t + 1) none,
       c.count-count.ensures,
     )
 
-pub loop-i-preserved : goal.loop-i-preserved
-loop-i-preserved g c =
+pub loop-n-preserved : goal.loop-n-preserved
+loop-n-preserved g c =
     let cs = g.S.Store.cells c.args.store.now in
-    let inv = c.loop-i.invariant in
-    let i = c.loop-i.i in
-    let inside : c.loop-i.i < length (g.S.Store.cells c.args.store.now) = omega (arith, inv.3) in
-    let told = c.dump_cell.ensures in
-    let text : string_bytes c.dump_cell.new.out ≡ string_bytes c.loop-i.out ++ cell_line g.K.Printable.held (i + 1) (cell_at cs (i + 1)) = search rules in (
-      lines_more g.K.Printable.held cs i _ _ inside text ∙ inv.0,
-      counted_more cs i _ _ inside told.marks ∙ inv.1,
-      ap all_marked told.marks ∙ all_more (mark_of (cell_at cs (i + 1))) c.loop-i.totals ∙ omega (arith, inv.2),
-      inv.3,
+    let (lines, marks, seen, count) = c.loop-n.invariant in
+    let n = c.loop-n.n in
+    let from : 0 < c.loop-n.n = omega (arith, seen) in
+    let to : c.loop-n.n ≤ length (g.S.Store.cells c.args.store.now) = omega (arith, count) in
+    let told = c.dump_cell.ensures in (
+      lines_more g.K.Printable.held cs n _ _ from to c.in_ok-dump_cell.ensures.text ∙ lines,
+      counted_more cs n _ _ from to told.marks ∙ marks,
+      ap (λ t. all_marked t + 1) told.marks ∙ ap (λ k. k + 1) (all_more (mark_of (cell_at cs n)) c.loop-n.totals) ∙ omega (arith, seen),
+      count,
     )
 
 pub returns : goal.returns
 returns g c =
-    let inv = c.loop-i.invariant in
-    at_end g.K.Printable.held (g.S.Store.cells c.args.store.now) c.loop-i.i c.count-count.result (string_bytes c.loop-i.out) _ c.loop-i.totals
-    (omega (arith, inv.3)) inv.3 inv.0 inv.1 (search rules)
+    let cs = g.S.Store.cells c.args.store.now in
+    let (lines, marks, seen, count) = c.loop-n.invariant in
+    let n = c.loop-n.n in
+    let written : string_bytes c.writeln.new.self ≡ string_bytes c.loop-n-test.out ++ totals_line (length cs) c.loop-n-test.totals =
+    c.in_ok-writeln.ensures.bytes ∙ ap (λ k. string_bytes c.loop-n-test.out ++ totals_line k c.loop-n-test.totals) count in
+    elim c.loop-n-test.branch [
+      | else-loop-n-test w ↦
+          let past : length (g.S.Store.cells c.args.store.now) < c.loop-n.n = omega (arith, count) in
+          at_end g.K.Printable.held cs n (string_bytes c.loop-n.out) _ c.loop-n.totals past lines marks
+          (written ∙ ap (λ o. string_bytes o ++ totals_line (length cs) c.loop-n-test.totals) w.out-is ∙ ap (λ t. string_bytes c.loop-n.out ++ totals_line (length cs) t) w.totals-is)
+      | then-loop-n-test+in_ok-dump_cell+else-n-n-end w ↦
+          let from : 0 < c.loop-n.n = omega (arith, seen) in
+          let to : c.loop-n.n ≤ length (g.S.Store.cells c.args.store.now) = omega (arith, count) in
+          let past : length (g.S.Store.cells c.args.store.now) < c.loop-n.n + 1 = omega (arith, count) in
+          at_end g.K.Printable.held cs (n + 1) (string_bytes w.dump_cell.new.out) _ w.dump_cell.new.totals past
+          (lines_more g.K.Printable.held cs n _ _ from to w.in_ok-dump_cell.ensures.text ∙ lines)
+          (counted_more cs n _ _ from to w.dump_cell.ensures.marks ∙ marks)
+          (written ∙ ap (λ o. string_bytes o ++ totals_line (length cs) c.loop-n-test.totals) w.out-is ∙ ap (λ t. string_bytes w.dump_cell.new.out ++ totals_line (length cs) t) w.totals-is)
+    ]
