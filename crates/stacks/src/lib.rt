@@ -32,7 +32,7 @@ impl<T, const N: usize> Stack<T, N> {
         ensures value { result ≡ length self.now }
         ensures most { result ≤ N }
     {
-        self.height
+        self.as_slice().len()
     }
 
     pub fn clear(&mut self)
