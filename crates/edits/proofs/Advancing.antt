@@ -9,10 +9,10 @@ use Rattle.drafts.specs.declared.link.Link.TheVariants.{Old}
 use Rattle.drafts.specs.declared.link.Side.{Side}
 use Rattle.drafts.specs.declared.link.Lean.{Lean}
 use Rattle.drafts.specs.declared.draft.Draft.{Draft}
-use Rattle.drafts.specs.Grown.{kept, Seen, bind, seen, both_seen, weight, size_over, rotated}
+use Rattle.drafts.specs.Grown.{kept, Seen, seen, weight, size_over, rotated}
 use Rattle.drafts.specs.Drafts.{grown, tree_of, seen_of, Good, gone_of, side_weight, Grew, Makes}
 use Rattle.drafts.proofs.Seeing.{weight_seen, seen_same}
-use Rattle.drafts.proofs.Turning.{bind_at, bind_stop, both_bound}
+use Rattle.drafts.proofs.Turning.{bind_at, bind_stop}
 use Rattle.commits.specs.declared.writes.Joint.{Joint}
 use Rattle.edits.specs.declared.pending.Weighed.{Weighed}
 use Rattle.edits.specs.declared.pending.Plan.{Plan}
@@ -25,30 +25,29 @@ module _ {K : Type 0} where
   sized_as n v a b s l r u e f g h =
       ap (λ x. record { node = record { number = n; node = x }; left = l; right = r }) (e ∙ ap (λ k. resized k v) (f ∙ ap (λ k. size_over k b) g ∙ ap (λ k. size_over (weight l) k) h))
 
-  -- the sides of a node that was read, seen in one look
-  sized_both : (cs : List (Cell K)) (n : ℕ) (v : Node K) → Ok v ≡ read_answer cs n →
-      bind (both_seen cs (kept v.left) (kept v.right)) (λ p. Ok (sized_of n v p.0 p.1)) ≡ sized cs n
-  unfolding sized
-  sized_both cs n v h = both_bound (seen cs (kept v.left)) (seen cs (kept v.right)) (λ l r. Ok (sized_of n v l r)) ∙ bind_at (read_answer cs n) v _ h
-
   pub sized_done : (cs : List (Cell K)) (d : Draft K) (n : ℕ) (v u : Node K) (l r : Side K) (a b s : ℕ) → Ok v ≡ read_answer cs n →
-      Ok (seen_of d l, seen_of d r) ≡ both_seen cs (tree_of d (Old v.left)) (tree_of d (Old v.right)) → u ≡ resized s v → s ≡ size_over a b → a ≡ side_weight l → b ≡ side_weight r →
+      Ok (seen_of d l) ≡ seen cs (tree_of d (Old v.left)) → Ok (seen_of d r) ≡ seen cs (tree_of d (Old v.right)) → u ≡ resized s v → s ≡ size_over a b → a ≡ side_weight l → b ≡ side_weight r →
       sized_in d (Ok (record { node = record { number = n; node = u }; left = l; right = r })) ≡ sized cs n
-  unfolding grown
-  sized_done cs d n v u l r a b s h p e f g i =
+  unfolding sized grown
+  sized_done cs d n v u l r a b s h p q e f g i =
       ap Ok (sized_as n v a b s (seen_of d l) (seen_of d r) u e f (g ∙ sym (weight_seen d l)) (i ∙ sym (weight_seen d r)))
-      ∙ bind_at (both_seen cs (kept v.left) (kept v.right)) (seen_of d l, seen_of d r) (λ q. Ok (sized_of n v q.0 q.1)) p ∙ sized_both cs n v h
+      ∙ bind_at (seen cs (kept v.right)) (seen_of d r) _ q ∙ bind_at (seen cs (kept v.left)) (seen_of d l) _ p ∙ bind_at (read_answer cs n) v _ h
 
   pub sized_unread : (cs : List (Cell K)) (d : Draft K) (n : ℕ) (e y : StoreFault) (r : Result (Weighed K) StoreFault) → Err e ≡ read_answer cs n → r ≡ Err y → y ≡ e →
       (sized_in d r ≡ sized cs n) × good_in d r
   unfolding sized
   sized_unread cs d n e y r h p q = (rw (p, q) (bind_stop (read_answer cs n) e _ h), rw p tt)
 
-  pub sized_unseen : (cs : List (Cell K)) (d : Draft K) (n : ℕ) (v : Node K) (e y : StoreFault) (r : Result (Weighed K) StoreFault) → Ok v ≡ read_answer cs n →
-      Err e ≡ both_seen cs (tree_of d (Old v.left)) (tree_of d (Old v.right)) → r ≡ Err y → y ≡ e → (sized_in d r ≡ sized cs n) × good_in d r
-  unfolding grown
-  sized_unseen cs d n v e y r h i p q =
-      (rw (p, q) (bind_stop (both_seen cs (kept v.left) (kept v.right)) e (λ q. Ok (sized_of n v q.0 q.1)) i ∙ sized_both cs n v h), rw p tt)
+  pub sized_left : (cs : List (Cell K)) (d : Draft K) (n : ℕ) (v : Node K) (e y : StoreFault) (r : Result (Weighed K) StoreFault) → Ok v ≡ read_answer cs n →
+      Err e ≡ seen cs (tree_of d (Old v.left)) → r ≡ Err y → y ≡ e → (sized_in d r ≡ sized cs n) × good_in d r
+  unfolding sized grown
+  sized_left cs d n v e y r h i p q = (rw (p, q) (bind_stop (seen cs (kept v.left)) e _ i ∙ bind_at (read_answer cs n) v _ h), rw p tt)
+
+  pub sized_right : (cs : List (Cell K)) (d : Draft K) (n : ℕ) (v : Node K) (l : Side K) (e y : StoreFault) (r : Result (Weighed K) StoreFault) → Ok v ≡ read_answer cs n →
+      Ok (seen_of d l) ≡ seen cs (tree_of d (Old v.left)) → Err e ≡ seen cs (tree_of d (Old v.right)) → r ≡ Err y → y ≡ e → (sized_in d r ≡ sized cs n) × good_in d r
+  unfolding sized grown
+  sized_right cs d n v l e y r h i j p q =
+      (rw (p, q) (bind_stop (seen cs (kept v.right)) e _ j ∙ bind_at (seen cs (kept v.left)) (seen_of d l) _ i ∙ bind_at (read_answer cs n) v _ h), rw p tt)
 
   -- the link to a node
   pub joint_root : (cs : List (Cell K)) (path : List ℕ) (n : ℕ) → None ≡ lowest path → Ok None ≡ joint_at cs path n

@@ -46,7 +46,9 @@ fn weigh_up<S: Store>(
     ensures good { good_in draft.now result }
 {
     let v = store.read(n as usize)?;
-    let (left, right) = draft.see_both(store, Link::Old(v.left), Link::Old(v.right))?;
+    // Seen one by one: as a pair from `see_both` they are copied once more.
+    let left = draft.see(store, Link::Old(v.left))?;
+    let right = draft.see(store, Link::Old(v.right))?;
     let size = size_over(left.weight(), right.weight());
     let node = Numbered {
         number: n,
