@@ -35,7 +35,7 @@ during_err k (Err f) e h = let q : e ≡ record { doing = k; fault = f } = cc in
 
 -- the numbers that are left are all that were found
 pub unused : (f : Found) → f.used ≡ 0 → left_of f ≡ found_of f
-unused f e = ap (λ k. drop k f.numbers) e
+unused f e = ap (λ k. drop k (found_of f)) e
 
 pub enough : {K : Type 0} (cs : List (Cell K)) (ns : List ℕ) → Finds cs 3 ns → 3 ≤ length ns → 3 ≤ free_count cs
 enough cs ns f h = omega (arith, f.many)

@@ -3,6 +3,7 @@ ghost use Rattle.std.specs.Prelude.{◌≡◌, ℕ, ◌≤◌, [], if◌then◌e
 ghost use Rattle.drafts.specs.declared.link.Lean.TheVariants.{Left, Right};
 ghost use Rattle.drafts.specs.Drafts.{seen_of};
 ghost use Rattle.drafts.specs.Grown.{heavy_side, weight};
+ghost use Rattle.stacks.specs.Held.{held};
 ghost use Rattle.search.specs.Paths.{above};
 ghost use Rattle.edits.specs.Calls.{resized, sized, sized_by, sized_in, Fresh, good_in, joint_at, turned_at, turned_in, plan_good, rotation, treated, advanced, Turns, TurnsInside, Edits, EditsInside};
 
@@ -108,7 +109,7 @@ impl Tree {
     ) -> Result<(), Refusal>
         requires fresh { Fresh draft.old w.now }
         requires from { (n : ℕ) × (Ok (sized_by draft.old w.now) ≡ sized (S.Store.cells store.old) n) }
-        ensures turns { TurnsInside (S.Store.cells store.old) (S.Store.cells store.new) self.old.root self.new.root result (λ ns. rotation (S.Store.cells store.old) (above self.old.path) self.old.root sessions ns (sized_by draft.old w.now) lean) }
+        ensures turns { TurnsInside (S.Store.cells store.old) (S.Store.cells store.new) self.old.root self.new.root result (λ ns. rotation (S.Store.cells store.old) (above (held self.old.path)) self.old.root sessions ns (sized_by draft.old w.now) lean) }
         ensures path { self.new.path ≡ self.old.path }
         ensures keeps { S.Store.fit store.old → S.Store.fit store.new }
     {
@@ -142,7 +143,7 @@ impl Tree {
     ) -> Result<(), Refusal>
         requires fresh { Fresh draft.old w.now }
         requires from { (n : ℕ) × (Ok (sized_by draft.old w.now) ≡ sized (S.Store.cells store.old) n) }
-        ensures turns { TurnsInside (S.Store.cells store.old) (S.Store.cells store.new) self.old.root self.new.root result (λ ns. treated (S.Store.cells store.old) (above self.old.path) self.old.root sessions ns (sized_by draft.old w.now) (heavy_side (weight (seen_of draft.old w.now.left)) (weight (seen_of draft.old w.now.right)))) }
+        ensures turns { TurnsInside (S.Store.cells store.old) (S.Store.cells store.new) self.old.root self.new.root result (λ ns. treated (S.Store.cells store.old) (above (held self.old.path)) self.old.root sessions ns (sized_by draft.old w.now) (heavy_side (weight (seen_of draft.old w.now.left)) (weight (seen_of draft.old w.now.right)))) }
         ensures path { self.new.path ≡ self.old.path }
         ensures keeps { S.Store.fit store.old → S.Store.fit store.new }
     {
@@ -164,8 +165,8 @@ impl Tree {
         draft: &mut Draft<S::Key>,
         sessions: u32,
     ) -> Result<usize, Refusal>
-        ensures edits { Edits (S.Store.cells store.old) (S.Store.cells store.new) self.old.path self.new.path self.old.root self.new.root result (λ ns. advanced (S.Store.cells store.old) self.old.path self.old.root sessions ns) }
-        ensures inside { EditsInside (S.Store.cells store.old) (S.Store.cells store.new) self.old.path self.new.path self.old.root self.new.root result (λ ns. advanced (S.Store.cells store.old) self.old.path self.old.root sessions ns) }
+        ensures edits { Edits (S.Store.cells store.old) (S.Store.cells store.new) (held self.old.path) (held self.new.path) self.old.root self.new.root result (λ ns. advanced (S.Store.cells store.old) (held self.old.path) self.old.root sessions ns) }
+        ensures inside { EditsInside (S.Store.cells store.old) (S.Store.cells store.new) (held self.old.path) (held self.new.path) self.old.root self.new.root result (λ ns. advanced (S.Store.cells store.old) (held self.old.path) self.old.root sessions ns) }
         ensures keeps { S.Store.fit store.old → S.Store.fit store.new }
     {
         let n = self.path.last().ok_or(Refusal::Resting)?;

@@ -4,6 +4,8 @@ use Rattle.store.specs.declared.node.Node.{Node}
 use Rattle.store.specs.declared.fault.StoreFault.{StoreFault}
 use Rattle.store.specs.Cells.{Cell, read_answer}
 use Rattle.std.specs.Option.{unwrap_or}
+use Rattle.stacks.specs.declared.numbers.Numbers.{Numbers}
+use Rattle.stacks.specs.Held.{held}
 use Rattle.drafts.specs.declared.link.Lean.{Lean}
 use Rattle.drafts.specs.declared.link.Lean.TheVariants.{Right}
 use Rattle.drafts.specs.Grown.{bind}
@@ -28,8 +30,8 @@ use Rattle.grafts.proofs.Asking.{passed_ok, passed_err, unpassed}
 
 -- THE WAY DOWN
 
-module _ (way : List ℕ) where
-  stopped : (told : Result Way StoreFault) (got : Result (Option ℕ) StoreFault) (e : TreeFault) (y : Refusal) (r : Result (List ℕ × Option ℕ) Refusal) → Reaches [] way got told → Err e ≡ during Search got →
+module _ (way : Numbers 27) where
+  stopped : (told : Result Way StoreFault) (got : Result (Option ℕ) StoreFault) (e : TreeFault) (y : Refusal) (r : Result (Numbers 27 × Option ℕ) Refusal) → Reaches [] (held way) got told → Err e ≡ during Search got →
       r ≡ Err y → y ≡ Refused e → Begins r (refused_in Search told)
   unfolding refused_in
   stopped (Ok w) got e y r p h a b = let q = h ∙ ap (during Search) p.0 in let z : ◌≡◌ {A = ℕ} 0 1 = cc in let u : ⊥ = omega arith in elim u [ ]
@@ -38,16 +40,16 @@ module _ (way : List ℕ) where
       let q : Refused e ≡ Refused (record { doing = Search; fault = f }) = cc in
       a ∙ ap Err (b ∙ q)
 
-  arrived : (told : Result Way StoreFault) (got : Result (Option ℕ) StoreFault) (end : Option ℕ) → Reaches [] way got told → Ok end ≡ during Search got → Begins (Ok (way, end)) (refused_in Search told)
+  arrived : (told : Result Way StoreFault) (got : Result (Option ℕ) StoreFault) (end : Option ℕ) → Reaches [] (held way) got told → Ok end ≡ during Search got → Begins (Ok (way, end)) (refused_in Search told)
   unfolding refused_in
   arrived (Ok w) got end p h =
       let q = passed_ok Search (Ok w.end) end (h ∙ ap (during Search) p.0) in
       let e : end ≡ w.end = cc in
-      ap (λ z. Ok (z, end)) p.1 ∙ ap (λ z. Ok (w.passed, z)) e
+      (p.1, e)
   arrived (Err f) got end p h = let q = h ∙ ap (during Search) p in let z : ◌≡◌ {A = ℕ} 0 1 = cc in let u : ⊥ = omega arith in elim u [ ]
 
 module _ {K : Type 0} (less : K → K → Bool) (x : Sought K) (cs : List (Cell K)) (path : List ℕ) (root : ℕ) where
-  pub begin_busy : (e y : Refusal) (r : Result (List ℕ × Option ℕ) Refusal) → Err e ≡ rest_at path → r ≡ Err y → y ≡ e → Begins r (begun less x cs path root)
+  pub begin_busy : (e y : Refusal) (r : Result (Numbers 27 × Option ℕ) Refusal) → Err e ≡ rest_at path → r ≡ Err y → y ≡ e → Begins r (begun less x cs path root)
   unfolding begun
   begin_busy e y r h a b = subst (Begins r) (bind_stop (rest_at path) e _ h) (a ∙ ap Err b)
 
@@ -58,13 +60,13 @@ module _ {K : Type 0} (less : K → K → Bool) (x : Sought K) (cs : List (Cell 
   unfolding begun
   rested o = bind_at (rest_at path) tt _ o
 
-  pub begin_stopped : (h way : List ℕ) (got : Result (Option ℕ) StoreFault) (e : TreeFault) (y : Refusal) (r : Result (List ℕ × Option ℕ) Refusal) → Ok tt ≡ rest_at path → h ≡ [] →
-      Reaches h way got (descended less x cs (27 - length h) root) → Err e ≡ during Search got → r ≡ Err y → y ≡ Refused e → Begins r (begun less x cs path root)
-  begin_stopped h way got e y r o n p d a b = subst (Begins r) (rested o) (stopped way _ got e y r (from_none h way got n p) d a b)
+  pub begin_stopped : (h : List ℕ) (way : Numbers 27) (got : Result (Option ℕ) StoreFault) (e : TreeFault) (y : Refusal) (r : Result (Numbers 27 × Option ℕ) Refusal) → Ok tt ≡ rest_at path → h ≡ [] →
+      Reaches h (held way) got (descended less x cs (27 - length h) root) → Err e ≡ during Search got → r ≡ Err y → y ≡ Refused e → Begins r (begun less x cs path root)
+  begin_stopped h way got e y r o n p d a b = subst (Begins r) (rested o) (stopped way _ got e y r (from_none h (held way) got n p) d a b)
 
-  pub begin_done : (h way : List ℕ) (got : Result (Option ℕ) StoreFault) (end : Option ℕ) → Ok tt ≡ rest_at path → h ≡ [] →
-      Reaches h way got (descended less x cs (27 - length h) root) → Ok end ≡ during Search got → Begins (Ok (way, end)) (begun less x cs path root)
-  begin_done h way got end o n p d = subst (Begins (Ok (way, end))) (rested o) (arrived way _ got end (from_none h way got n p) d)
+  pub begin_done : (h : List ℕ) (way : Numbers 27) (got : Result (Option ℕ) StoreFault) (end : Option ℕ) → Ok tt ≡ rest_at path → h ≡ [] →
+      Reaches h (held way) got (descended less x cs (27 - length h) root) → Ok end ≡ during Search got → Begins (Ok (way, end)) (begun less x cs path root)
+  begin_done h way got end o n p d = subst (Begins (Ok (way, end))) (rested o) (arrived way _ got end (from_none h (held way) got n p) d)
 
 -- THE LINK
 

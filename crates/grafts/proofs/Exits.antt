@@ -25,18 +25,18 @@ use Rattle.edits.specs.declared.fault.Refusal.TheVariants.{Refused}
 use Rattle.edits.specs.Refusals.{refused_in}
 use Rattle.edits.specs.Calls.{Change, Ends, Within, EditsInside}
 use Rattle.grafts.specs.Grafts.{vacant, holder, room_at, free_for, begun, grafted, put_told, Held, held_by, drop_needs, drop_graft, drop_told, apart, lower_of, upper_of, split_told}
+use Rattle.stacks.specs.declared.numbers.Numbers.{Numbers}
+use Rattle.stacks.specs.Held.{held}
 use Rattle.grafts.specs.Drafted.{Begins}
 use Rattle.grafts.proofs.Asking.{unpassed}
 
 -- a way that was taken
 pub begins_err : (e : Refusal) (told : Result Way Refusal) → Begins (Err e) told → Err e ≡ told
-begins_err e (Ok w) p = let z : ◌≡◌ {A = ℕ} 0 1 = cc in let u : ⊥ = omega arith in elim u [ ]
+begins_err e (Ok w) p = elim p [ ]
 begins_err e (Err f) p = let q : e ≡ f = cc in ap Err q
 
-pub begins_ok : (way : List ℕ) (end : Option ℕ) (told : Result Way Refusal) → Begins (Ok (way, end)) told → Ok (record { passed = way; end = end }) ≡ told
-begins_ok way end (Ok w) p =
-    let q : ◌≡◌ {A = List ℕ × Option ℕ} (way, end) (w.passed, w.end) = cc in
-    ap (λ z. Ok (record { passed = z.0; end = z.1 })) q
+pub begins_ok : (way : Numbers 27) (end : Option ℕ) (told : Result Way Refusal) → Begins (Ok (way, end)) told → Ok (record { passed = held way; end = end }) ≡ told
+begins_ok way end (Ok w) p = ap (λ z. Ok (record { passed = z; end = end })) p.0 ∙ ap (λ z. Ok (record { passed = w.passed; end = z })) p.1
 begins_ok way end (Err f) p = let z : ◌≡◌ {A = ℕ} 0 1 = cc in let u : ⊥ = omega arith in elim u [ ]
 
 held_number : {K : Type 0} (way : List ℕ) (n : ℕ) (v : Node K) (h : Held K) → ◌≡◌ {A = Result (Held K) Refusal} (Ok h) (Ok (record { way = way; node = numbered n v })) → n ≡ h.node.number

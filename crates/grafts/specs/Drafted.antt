@@ -1,7 +1,9 @@
 -- What the steps of put, drop and split deliver, said of the code's own values.
-use Rattle.std.specs.Prelude.{◌≡◌, ℕ, List, length, Ok, Err, Option, Result}
+use Rattle.std.specs.Prelude.{◌≡◌, ℕ, List, length, Ok, Err, Option, Result, IsOkAnd}
 use Rattle.store.specs.Cells.{Cell}
 use Rattle.store.specs.declared.fault.StoreFault.{StoreFault}
+use Rattle.stacks.specs.declared.numbers.Numbers.{Numbers}
+use Rattle.stacks.specs.Held.{held}
 use Rattle.drafts.specs.declared.link.Link.{Link}
 use Rattle.drafts.specs.declared.link.Numbered.{Numbered}
 use Rattle.drafts.specs.declared.draft.Draft.{Draft}
@@ -25,14 +27,14 @@ module _ {K : Type 0} where
   FindsFree cs want (Err e) = Err e ≡ free_for cs want
 
 -- the way down was taken: the path, and the answer
-abbrev pub Begins : Result (List ℕ × Option ℕ) Refusal → Result Way Refusal → Type 0
-Begins r (Ok w) = r ≡ Ok (w.passed, w.end)
+abbrev pub Begins : Result (Numbers 27 × Option ℕ) Refusal → Result Way Refusal → Type 0
+Begins r (Ok w) = IsOkAnd r (λ a. (held a.0 ≡ w.passed) × (a.1 ≡ w.end))
 Begins r (Err e) = r ≡ Err e
 
 module _ {K : Type 0} where
   -- the node that holds a key was found: the path, and it
-  abbrev pub Holds : Result (List ℕ × Numbered K) Refusal → Result (Held K) Refusal → Type 0
-  Holds r (Ok h) = r ≡ Ok (h.way, h.node)
+  abbrev pub Holds : Result (Numbers 27 × Numbered K) Refusal → Result (Held K) Refusal → Type 0
+  Holds r (Ok h) = IsOkAnd r (λ a. (held a.0 ≡ h.way) × (a.1 ≡ h.node))
   Holds r (Err e) = r ≡ Err e
 
   -- what takes a link's place was drafted

@@ -1,6 +1,7 @@
 // What an edit asks before it drafts anything: rest, a fitting end of the search, room in the pool, free nodes.
 ghost use Rattle.std.specs.Prelude.{◌≡◌, ◌≤◌};
 ghost use Rattle.store.specs.Nodes.{link_number};
+ghost use Rattle.stacks.specs.Held.{held};
 ghost use Rattle.grafts.specs.Grafts.{rest_at, vacant, same_by, apart, size_by, room_at, drop_needs};
 ghost use Rattle.grafts.specs.Drafted.{FindsFree};
 
@@ -16,7 +17,7 @@ const RESERVED: usize = 32 + MOST_NEW;
 
 // An edit begins at rest.
 pub(crate) fn at_rest(tree: &Tree) -> Result<(), Refusal>
-    ensures { result ≡ rest_at tree.now.path }
+    ensures { result ≡ rest_at (held tree.now.path) }
 {
     tree.path.last().map_or(Ok(()), |_| Err(Refusal::Busy))
 }

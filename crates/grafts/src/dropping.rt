@@ -1,6 +1,7 @@
 // Drop: with an empty side the other one takes the node's place; else the least region of the right side rises.
 ghost use Rattle.std.specs.Prelude.{◌≡◌, []};
 ghost use Rattle.drafts.specs.Drafts.{gone_of};
+ghost use Rattle.stacks.specs.Held.{held};
 ghost use Rattle.search.specs.Searches.{less_by};
 ghost use Rattle.edits.specs.Calls.{EditsInside};
 ghost use Rattle.grafts.specs.Grafts.{drop_graft, drop_told};
@@ -50,7 +51,7 @@ pub fn drop_region<S: Store>(
     key: S::Key,
     sessions: u32,
 ) -> Result<usize, Refusal>
-    ensures edits { EditsInside (S.Store.cells store.old) (S.Store.cells store.new) tree.old.path tree.new.path tree.old.root tree.new.root result (drop_told (less_by S.Key.Ordered.fault S.Key.Ordered.order) (S.Store.cells store.old) tree.old.path tree.old.root sessions key) }
+    ensures edits { EditsInside (S.Store.cells store.old) (S.Store.cells store.new) (held tree.old.path) (held tree.new.path) tree.old.root tree.new.root result (drop_told (less_by S.Key.Ordered.fault S.Key.Ordered.order) (S.Store.cells store.old) (held tree.old.path) tree.old.root sessions key) }
     ensures keeps { S.Store.fit store.old → S.Store.fit store.new }
 {
     draft.clear();

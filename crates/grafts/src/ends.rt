@@ -1,6 +1,7 @@
 // The way down with which an edit begins, and the link with which it ends.
 ghost use Rattle.std.specs.Prelude.{◌≡◌, ◌≤◌, length};
 ghost use Rattle.drafts.specs.Drafts.{tree_of, Fine, gone_of};
+ghost use Rattle.stacks.specs.Held.{held};
 ghost use Rattle.search.specs.Searches.{less_by};
 ghost use Rattle.search.specs.Frees.{left_of};
 ghost use Rattle.commits.specs.Commits.{news, AllInside, GoneInside};
@@ -21,7 +22,7 @@ pub(crate) fn begin<S: Store>(
     tree: &Tree,
     sought: &Sought<S::Key>,
 ) -> Result<(Path, Option<u16>), Refusal>
-    ensures { Begins result (begun (less_by S.Key.Ordered.fault S.Key.Ordered.order) sought.now (S.Store.cells store.now) tree.now.path tree.now.root) }
+    ensures { Begins result (begun (less_by S.Key.Ordered.fault S.Key.Ordered.order) sought.now (S.Store.cells store.now) (held tree.now.path) tree.now.root) }
 {
     at_rest(tree)?;
     let mut way = Path::new();
@@ -35,7 +36,7 @@ fn joint_for<S: Store>(
     way: &Path,
     sought: &Sought<S::Key>,
 ) -> Result<Option<Joint<S::Key>>, StoreFault>
-    ensures { result ≡ joint_for (less_by S.Key.Ordered.fault S.Key.Ordered.order) sought.now (S.Store.cells store.now) way.now }
+    ensures { result ≡ joint_for (less_by S.Key.Ordered.fault S.Key.Ordered.order) sought.now (S.Store.cells store.now) (held way.now) }
 {
     let Some(number) = way.last() else {
         return Ok(None);
@@ -62,8 +63,8 @@ pub(crate) fn finish<S: Store>(
     requires many { news (tree_of draft.now top) ≤ length (left_of found.old) }
     requires inside { AllInside (length (S.Store.cells store.old)) (left_of found.old) }
     requires gone { GoneInside (length (S.Store.cells store.old)) (gone_of draft.now) }
-    ensures inside { Within (length (S.Store.cells store.old)) (grafted (less_by S.Key.Ordered.fault S.Key.Ordered.order) sought.now (S.Store.cells store.old) way tree.old.root sessions (left_of found.old) (record { side = tree_of draft.now top; gone = gone_of draft.now })) }
-    ensures ends { Ends (S.Store.cells store.old) (S.Store.cells store.new) tree.old.path tree.new.path tree.old.root tree.new.root result (grafted (less_by S.Key.Ordered.fault S.Key.Ordered.order) sought.now (S.Store.cells store.old) way tree.old.root sessions (left_of found.old) (record { side = tree_of draft.now top; gone = gone_of draft.now })) }
+    ensures inside { Within (length (S.Store.cells store.old)) (grafted (less_by S.Key.Ordered.fault S.Key.Ordered.order) sought.now (S.Store.cells store.old) (held way) tree.old.root sessions (left_of found.old) (record { side = tree_of draft.now top; gone = gone_of draft.now })) }
+    ensures ends { Ends (S.Store.cells store.old) (S.Store.cells store.new) (held tree.old.path) (held tree.new.path) tree.old.root tree.new.root result (grafted (less_by S.Key.Ordered.fault S.Key.Ordered.order) sought.now (S.Store.cells store.old) (held way) tree.old.root sessions (left_of found.old) (record { side = tree_of draft.now top; gone = gone_of draft.now })) }
     ensures keeps { S.Store.fit store.old → S.Store.fit store.new }
 {
     tree.cursor = found.end(tree.cursor);

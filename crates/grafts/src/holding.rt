@@ -1,5 +1,6 @@
 // The node that holds a key: drop and split begin there.
 ghost use Rattle.std.specs.Prelude.{◌≡◌};
+ghost use Rattle.stacks.specs.Held.{held};
 ghost use Rattle.search.specs.Searches.{less_by};
 ghost use Rattle.grafts.specs.Grafts.{held_by};
 ghost use Rattle.grafts.specs.Drafted.{Holds};
@@ -16,7 +17,7 @@ pub(crate) fn hold<S: Store>(
     tree: &Tree,
     key: &S::Key,
 ) -> Result<(Path, Numbered<S::Key>), Refusal>
-    ensures { Holds result (held_by (less_by S.Key.Ordered.fault S.Key.Ordered.order) key.now (S.Store.cells store.now) tree.now.path tree.now.root) }
+    ensures { Holds result (held_by (less_by S.Key.Ordered.fault S.Key.Ordered.order) key.now (S.Store.cells store.now) (held tree.now.path) tree.now.root) }
 {
     let (way, end) = begin(store, tree, &Sought::Holder(*key))?;
     let number = end.ok_or(Refusal::Missing)?;

@@ -1,5 +1,6 @@
 // Put: a new node where the search for its range ends.
 ghost use Rattle.std.specs.Prelude.{◌≡◌};
+ghost use Rattle.stacks.specs.Held.{held};
 ghost use Rattle.search.specs.Searches.{less_by};
 ghost use Rattle.edits.specs.Calls.{EditsInside};
 ghost use Rattle.grafts.specs.Grafts.{put_told};
@@ -19,7 +20,7 @@ pub fn put_region<S: Store>(
     region: Region<S::Key>,
     sessions: u32,
 ) -> Result<usize, Refusal>
-    ensures edits { EditsInside (S.Store.cells store.old) (S.Store.cells store.new) tree.old.path tree.new.path tree.old.root tree.new.root result (put_told (less_by S.Key.Ordered.fault S.Key.Ordered.order) (S.Store.cells store.old) tree.old.path tree.old.root sessions region) }
+    ensures edits { EditsInside (S.Store.cells store.old) (S.Store.cells store.new) (held tree.old.path) (held tree.new.path) tree.old.root tree.new.root result (put_told (less_by S.Key.Ordered.fault S.Key.Ordered.order) (S.Store.cells store.old) (held tree.old.path) tree.old.root sessions region) }
     ensures keeps { S.Store.fit store.old → S.Store.fit store.new }
 {
     draft.clear();

@@ -1,5 +1,6 @@
 // Split: the lower part takes the node's place, over the right side with the upper part as its least.
 ghost use Rattle.std.specs.Prelude.{◌≡◌};
+ghost use Rattle.stacks.specs.Held.{held};
 ghost use Rattle.search.specs.Searches.{less_by};
 ghost use Rattle.edits.specs.Calls.{EditsInside};
 ghost use Rattle.grafts.specs.Grafts.{same_by, lower_of, upper_of, split_told};
@@ -40,7 +41,7 @@ pub fn split_region<S: Store>(
     upper: u64,
     sessions: u32,
 ) -> Result<usize, Refusal>
-    ensures edits { EditsInside (S.Store.cells store.old) (S.Store.cells store.new) tree.old.path tree.new.path tree.old.root tree.new.root result (split_told (less_by S.Key.Ordered.fault S.Key.Ordered.order) (same_by S.Key.Ordered.fault S.Key.Ordered.order) (S.Store.cells store.old) tree.old.path tree.old.root sessions key lower upper) }
+    ensures edits { EditsInside (S.Store.cells store.old) (S.Store.cells store.new) (held tree.old.path) (held tree.new.path) tree.old.root tree.new.root result (split_told (less_by S.Key.Ordered.fault S.Key.Ordered.order) (same_by S.Key.Ordered.fault S.Key.Ordered.order) (S.Store.cells store.old) (held tree.old.path) tree.old.root sessions key lower upper) }
     ensures keeps { S.Store.fit store.old → S.Store.fit store.new }
 {
     draft.clear();

@@ -2,6 +2,7 @@
 use Rattle.std.specs.Prelude.{◌≡◌, ℕ, zero, suc, ◌+◌, ◌-◌, ◌<◌, ◌≤◌, min, cond, List, [], ◌∷◌, ◌++◌, length, drop, Ok, Err, Result, ◌==◌, ◌≢◌}
 use Rattle.store.specs.declared.fault.StoreFault.{StoreFault}
 use Rattle.store.specs.Cells.{Cell, mark_answer}
+use Rattle.stacks.specs.Held.{held}
 use Rattle.search.specs.declared.free.Found.{Found}
 
 -- a number differs from each of a list
@@ -37,12 +38,13 @@ module _ {K : Type 0} where
   Chosen cs [] = Unit {0}
   Chosen cs (n ∷ ns) = FreeNode cs n × (Apart n ns × Chosen cs ns)
 
+-- the numbers found
+abbrev pub found_of : Found → List ℕ
+found_of f = held f.numbers
+
 -- the numbers found that were not used yet
 abbrev pub left_of : Found → List ℕ
-left_of f = drop f.used f.numbers
-
-abbrev pub found_of : Found → List ℕ
-found_of f = f.numbers
+left_of f = drop f.used (found_of f)
 
 module _ {K : Type 0} where
   -- a stretch of the search: the free ones of the next `many` nodes came to the others, and it went on until all were seen or there were enough

@@ -1,5 +1,6 @@
 // The search for free nodes: from a cursor once round the pool, no further than needed.
 ghost use Rattle.std.specs.Prelude.{◌≡◌, ◌+◌, ◌-◌, ◌<◌, ◌≤◌, length, slice_index_or, MatchResult, OnErr};
+ghost use Rattle.stacks.specs.Held.{held};
 ghost use Rattle.search.specs.Firsts.{first, later};
 ghost use Rattle.search.specs.Frees.{pool_end, found_of, left_of, Gathers, Finds};
 
@@ -26,9 +27,9 @@ fn gather<S: Store>(
     numbers: &mut Numbers<MOST_NEW>,
 ) -> Result<(), StoreFault>
     requires pool { (1 ≤ from) × (from < to → to ≤ pool_end (S.Store.cells store.now) + 1) }
-    requires room { (want ≤ 96) × (length numbers.old ≤ want) }
+    requires room { (want ≤ 96) × (length (held numbers.old) ≤ want) }
     ensures answered { OnErr result (⊥) }
-    ensures found { Gathers (S.Store.cells store.now) from (to - from) want numbers.old numbers.new }
+    ensures found { Gathers (S.Store.cells store.now) from (to - from) want (held numbers.old) (held numbers.new) }
 {
     for n in from..to {
         if numbers.len() == want {

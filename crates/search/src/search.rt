@@ -1,5 +1,6 @@
 // The search in the tree: the way down for a key or for a range.
 ghost use Rattle.std.specs.Prelude.{◌≡◌, ◌-◌, length};
+ghost use Rattle.stacks.specs.Held.{held};
 ghost use Rattle.search.specs.Searches.{less_by, side_for, descended, Reaches};
 
 use crate::path::{DEEPEST, Path};
@@ -59,7 +60,7 @@ pub fn descend<S: Store>(
     link: u16,
     path: &mut Path,
 ) -> Result<Option<u16>, StoreFault>
-    ensures { Reaches path.old path.new result (descended (less_by S.Key.Ordered.fault S.Key.Ordered.order) sought.now (S.Store.cells store.now) (27 - length path.old) link) }
+    ensures { Reaches (held path.old) (held path.new) result (descended (less_by S.Key.Ordered.fault S.Key.Ordered.order) sought.now (S.Store.cells store.now) (27 - length (held path.old)) link) }
 {
     let Some(n) = linked(link) else {
         return Ok(None);

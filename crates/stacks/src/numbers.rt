@@ -1,39 +1,23 @@
-// A stack of node numbers by value that can be copied: what a `Stack` of numbers is, with 0 in the places above the top. So the numbers
-// alone say what every place holds, which the toolchain asks of a `Copy` type with an `impl Model`.
+// A stack of node numbers by value that can be copied, for the path of an edit and the free nodes that it found. The places above the top
+// hold 0, so the numbers alone say what every place holds. Its bound is a ghost field, where `Stack` has an `impl Model`: the toolchain
+// proves no `Copy` struct that holds one with an `impl Model` where that struct is passed by value and used again.
 ghost use Rattle.std.specs.Prelude.{◌≡◌, ◌-◌, ◌<◌, ◌≤◌, [], ◌∷◌, ◌++◌, length, take, slice_get};
+ghost use Rattle.stacks.specs.Padded.{Padded};
 
-use std::marker::Model;
-
-// At most N numbers, the last one on top.
+// At most N numbers, the last one on top. Clauses see them by `held`, from the bottom up.
 #[derive(Clone, Copy)]
 pub struct Numbers<const N: usize> {
     places: [u16; N],
     height: usize,
-}
-
-// Clauses see the numbers, from the bottom up.
-impl<const N: usize> Model for Numbers<N> {
-    ghost use Rattle.std.specs.Prelude.{ℕ, ◌-◌, ◌++◌, List, length, take, replicate};
-    ghost use Rattle.stacks.specs.Padded.{Padded, front_long, refilled};
-
-    ghost Value = { List ℕ };
-
-    ghost view = { λ s. take s.height s.places };
-
-    ghost invariant = { λ s. Padded s.height N s.places };
-
-    ghost inverse = { λ ns. record { places = ns ++ replicate (N - length ns) 0; height = length ns } };
-
-    ghost inverse_ok = { λ s h i. record {
-      places = refilled s.height N s.places h i;
-      height = front_long s.height N s.places h i;
-    } };
+    pub ghost padded: { Padded height N places },
 }
 
 impl<const N: usize> Numbers<N> {
+    ghost use Rattle.stacks.specs.Held.{held};
+
     // A stack with no numbers.
     pub fn new() -> Numbers<N>
-        ensures { result ≡ [] }
+        ensures { held result ≡ [] }
     {
         Numbers {
             places: [0; N],
@@ -42,7 +26,7 @@ impl<const N: usize> Numbers<N> {
     }
 
     pub fn len(&self) -> usize
-        ensures value { result ≡ length self.now }
+        ensures value { result ≡ length (held self.now) }
         ensures most { result ≤ N }
     {
         self.as_slice().len()
@@ -50,15 +34,15 @@ impl<const N: usize> Numbers<N> {
 
     // The numbers, from the bottom up.
     pub fn as_slice(&self) -> &[u16]
-        ensures items { result.now ≡ self.now }
+        ensures items { result.now ≡ held self.now }
         ensures most { length result.now ≤ N }
     {
         &self.places[..self.height]
     }
 
     pub fn push(&mut self, number: u16)
-        requires { length self.old < N }
-        ensures { self.new ≡ self.old ++ (number ∷ []) }
+        requires { length (held self.old) < N }
+        ensures { held self.new ≡ held self.old ++ (number ∷ []) }
     {
         self.places[self.height] = number;
         self.height += 1;
@@ -66,8 +50,8 @@ impl<const N: usize> Numbers<N> {
 
     // Takes the top number off.
     pub fn pop(&mut self) -> Option<u16>
-        ensures top { result ≡ slice_get self.old (length self.old - 1) }
-        ensures rest { self.new ≡ take (length self.old - 1) self.old }
+        ensures top { result ≡ slice_get (held self.old) (length (held self.old) - 1) }
+        ensures rest { held self.new ≡ take (length (held self.old) - 1) (held self.old) }
     {
         let number = self.last()?;
         let top = self.height - 1;
@@ -78,7 +62,7 @@ impl<const N: usize> Numbers<N> {
 
     // The top number.
     pub fn last(&self) -> Option<u16>
-        ensures { result ≡ slice_get self.now (length self.now - 1) }
+        ensures { result ≡ slice_get (held self.now) (length (held self.now) - 1) }
     {
         self.as_slice().last().copied()
     }

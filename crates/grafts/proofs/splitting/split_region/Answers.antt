@@ -1,8 +1,8 @@
-use Rattle.std.proofs.Common.{◌≡◌, ◌≤◌, subst, length, arith, rules}
+use Rattle.std.proofs.Common.{◌≡◌, subst, arith, rules}
 use Rattle.std.proofs.lemmas.Result.{err_from_is_err_and}
-use Rattle.drafts.specs.Drafts.{tree_of, built_told}
+use Rattle.drafts.specs.Drafts.{built_told}
+use Rattle.stacks.specs.Held.{held}
 use Rattle.search.specs.Frees.{left_of}
-use Rattle.commits.specs.Commits.{news}
 use Rattle.commits.proofs.Bounds.{chosen_inside}
 use Rattle.walks.specs.Walks.{parted}
 use Rattle.grafts.proofs.Keeping.{holds_err, holds_ok}
@@ -15,7 +15,7 @@ returns-in_err-way g c =
     let cs = g.S.Store.cells c.args.store.now in
     let p = err_from_is_err_and c.from_residual.result c.from_residual.ensures.1 in
     record {
-      edits = edits_refused cs c.args.tree.now.path c.args.tree.now.root _ _ _ _ (split_unheld cs c.args.tree.now.path c.args.tree.now.root _ _ c.args.sessions c.args.key c.args.lower c.args.upper _ (holds_err _ _ c.in_err-way.ensures)) p.1 p.2;
+      edits = edits_refused cs (held c.args.tree.now.path) c.args.tree.now.root _ _ _ _ (split_unheld cs (held c.args.tree.now.path) c.args.tree.now.root _ _ c.args.sessions c.args.key c.args.lower c.args.upper _ (holds_err _ _ c.in_err-way.ensures)) p.1 p.2;
       keeps = λ h. h;
     }
 
@@ -24,8 +24,8 @@ returns-in_err-past_low g c =
     let cs = g.S.Store.cells c.args.store.now in
     let p = err_from_is_err_and c.from_residual-in_err-past_low.result c.from_residual-in_err-past_low.ensures.1 in
     record {
-      edits = edits_refused cs c.args.tree.now.path c.args.tree.now.root _ _ _ _
-          (split_low cs c.args.tree.now.path c.args.tree.now.root _ _ c.args.sessions c.args.key c.args.lower c.args.upper _ (holds_ok _ _ _ c.in_ok-way.ensures) _ c.in_err-past_low.ensures) p.1 p.2;
+      edits = edits_refused cs (held c.args.tree.now.path) c.args.tree.now.root _ _ _ _
+          (split_low cs (held c.args.tree.now.path) c.args.tree.now.root _ _ c.args.sessions c.args.key c.args.lower c.args.upper _ (holds_ok _ _ _ c.in_ok-way.ensures) _ c.in_err-past_low.ensures) p.1 p.2;
       keeps = λ h. h;
     }
 
@@ -34,8 +34,8 @@ returns-in_err-has_room g c =
     let cs = g.S.Store.cells c.args.store.now in
     let p = err_from_is_err_and c.from_residual-in_err-has_room.result c.from_residual-in_err-has_room.ensures.1 in
     record {
-      edits = edits_refused cs c.args.tree.now.path c.args.tree.now.root _ _ _ _
-          (split_full cs c.args.tree.now.path c.args.tree.now.root _ _ c.args.sessions c.args.key c.args.lower c.args.upper _ (holds_ok _ _ _ c.in_ok-way.ensures) _ c.in_ok-past_low.ensures
+      edits = edits_refused cs (held c.args.tree.now.path) c.args.tree.now.root _ _ _ _
+          (split_full cs (held c.args.tree.now.path) c.args.tree.now.root _ _ c.args.sessions c.args.key c.args.lower c.args.upper _ (holds_ok _ _ _ c.in_ok-way.ensures) _ c.in_ok-past_low.ensures
           c.in_err-has_room.ensures) p.1 p.2;
       keeps = λ h. h;
     }
@@ -45,8 +45,8 @@ returns-in_err-found g c =
     let cs = g.S.Store.cells c.args.store.now in
     let p = err_from_is_err_and c.from_residual-in_err-found.result c.from_residual-in_err-found.ensures.1 in
     record {
-      edits = edits_refused cs c.args.tree.now.path c.args.tree.now.root _ _ _ _
-          (split_crowded cs c.args.tree.now.path c.args.tree.now.root _ _ c.args.sessions c.args.key c.args.lower c.args.upper _ (holds_ok _ _ _ c.in_ok-way.ensures) _ c.in_ok-past_low.ensures
+      edits = edits_refused cs (held c.args.tree.now.path) c.args.tree.now.root _ _ _ _
+          (split_crowded cs (held c.args.tree.now.path) c.args.tree.now.root _ _ c.args.sessions c.args.key c.args.lower c.args.upper _ (holds_ok _ _ _ c.in_ok-way.ensures) _ c.in_ok-past_low.ensures
           c.in_ok-has_room.ensures c.in_err-found.ensures) p.1 p.2;
       keeps = λ h. h;
     }
@@ -58,24 +58,22 @@ returns-in_err-side g c =
     let p = err_from_is_err_and c.from_residual-in_err-side.result c.from_residual-in_err-side.ensures.1 in
     let f = c.in_ok-found.ensures in
     record {
-      edits = edits_refused cs c.args.tree.now.path c.args.tree.now.root _ _ _ _
-          (split_stopped cs c.args.tree.now.path c.args.tree.now.root _ _ c.args.sessions c.args.key c.args.lower c.args.upper _ (holds_ok _ _ _ c.in_ok-way.ensures) _ c.in_ok-past_low.ensures
+      edits = edits_refused cs (held c.args.tree.now.path) c.args.tree.now.root _ _ _ _
+          (split_stopped cs (held c.args.tree.now.path) c.args.tree.now.root _ _ c.args.sessions c.args.key c.args.lower c.args.upper _ (holds_ok _ _ _ c.in_ok-way.ensures) _ c.in_ok-past_low.ensures
           c.in_ok-has_room.ensures f.asked (parted_stopped cs c.in_ok-way.p _ _ c.part.new.draft c.part.result _ told c.in_err-side.ensures)) p.1 p.2;
       keeps = λ h. h;
     }
 
 pub finish-requires : goal.finish-requires
-finish-requires g c =
-    let cs = g.S.Store.cells c.args.store.now in
-    let told = subst (λ z. built_told c.part.new.draft c.part.result ≡ parted cs c.in_ok-way.p z.0 z.1) c.cut-below.ensures c.part.ensures.value in
-    let f = c.in_ok-found.ensures in
-    let i = held_inside cs c.args.tree.now.path c.args.tree.now.root _ c.args.key _ (holds_ok _ _ _ c.in_ok-way.ensures) in
-    let s = divided_linkable cs c.in_ok-way.p _ _ c.part.new.draft c.part.result c.in_ok-side.side told c.in_ok-side.ensures c.link.result c.link.ensures c.part.ensures.good i in
-    let link = s.link in
-    let many : news (tree_of c.part.new.draft c.link.result) ≤ length (left_of c.in_ok-found.found) = omega (arith, s.few, f.many) in
-    let inside = chosen_inside cs _ f.chosen in
-    let gone = s.gone in
-    search rules
+finish-requires g c = (
+  search rules,
+  let cs = g.S.Store.cells c.args.store.now in
+  let told = subst (λ z. built_told c.part.new.draft c.part.result ≡ parted cs c.in_ok-way.p z.0 z.1) c.cut-below.ensures c.part.ensures.value in
+  let f = c.in_ok-found.ensures in
+  let i = held_inside cs (held c.args.tree.now.path) c.args.tree.now.root _ c.args.key _ (holds_ok _ _ _ c.in_ok-way.ensures) in
+  let s = divided_linkable cs c.in_ok-way.p _ _ c.part.new.draft c.part.result c.in_ok-side.side told c.in_ok-side.ensures c.link.result c.link.ensures c.part.ensures.good i in
+  (s.link, (omega (arith, s.few, f.many), (chosen_inside cs _ f.chosen, s.gone))),
+)
 
 pub returns : goal.returns
 returns g c =
@@ -83,8 +81,8 @@ returns g c =
     let told = subst (λ z. built_told c.part.new.draft c.part.result ≡ parted cs c.in_ok-way.p z.0 z.1) c.cut-below.ensures c.part.ensures.value in
     let f = c.in_ok-found.ensures in
     record {
-      edits = edits_end cs c.args.tree.now.path c.args.tree.now.root _ _ _ _ _ (left_of c.in_ok-found.found) _ f.chosen c.finish.ensures.inside
-          (split_done cs c.args.tree.now.path c.args.tree.now.root _ _ c.args.sessions c.args.key c.args.lower c.args.upper _ (holds_ok _ _ _ c.in_ok-way.ensures) _ _ (graft_at c.part.new.draft c.link.result)
+      edits = edits_end cs (held c.args.tree.now.path) c.args.tree.now.root _ _ _ _ _ (left_of c.in_ok-found.found) _ f.chosen c.finish.ensures.inside
+          (split_done cs (held c.args.tree.now.path) c.args.tree.now.root _ _ c.args.sessions c.args.key c.args.lower c.args.upper _ (holds_ok _ _ _ c.in_ok-way.ensures) _ _ (graft_at c.part.new.draft c.link.result)
           (divided_at cs c.in_ok-way.p _ _ c.part.new.draft c.part.result c.in_ok-side.side told c.in_ok-side.ensures c.link.result c.link.ensures c.part.ensures.good)
           c.in_ok-past_low.ensures c.in_ok-has_room.ensures f.asked
           (divided cs c.in_ok-way.p _ _ c.part.new.draft c.part.result c.in_ok-side.side told c.in_ok-side.ensures)) c.finish.ensures.ends;

@@ -1,5 +1,6 @@
 use Rattle.std.proofs.Common.{length, ◌∙◌, ap, arith}
 use Rattle.std.proofs.lemmas.List.{length_push}
+use Rattle.stacks.specs.Held.{held}
 use Rattle.search.proofs.Gathering.{none_yet, next_noted, noted, unnoted, gathered, marked}
 use Rattle.search.proofs.free.gather.Goals as goal
 use Rattle.search.proofs.free.gather.Goals.{then-branch-eq-FREE, else-branch-eq-FREE}
@@ -21,17 +22,17 @@ loop-n-preserved g c =
     let cs = g.S.Store.cells c.args.store.now in
     elim c.if-branch-eq-FREE.branch [
       | then-branch-eq-FREE w ↦
-          let e = w.numbers-is ∙ w.push.ensures in
+          let e = ap held w.numbers-is ∙ w.push.ensures in
           record {
             within = omega arith;
-            few = omega (arith, ap length e, length_push c.loop-n.numbers c.loop-n.n, c.len.ensures.value);
+            few = omega (arith, ap length e, length_push (held c.loop-n.numbers) c.loop-n.n, c.len.ensures.value);
             found = next_noted cs c.args.from c.loop-n.n _ _ _ _ (omega arith) i.found c.in_ok-mark.ensures (noted _ _ c.loop-n.n _ w.if-branch-eq-FREE.true e);
           }
       | else-branch-eq-FREE w ↦
           record {
             within = omega arith;
-            few = omega (arith, ap length w.numbers-is);
-            found = next_noted cs c.args.from c.loop-n.n _ _ _ _ (omega arith) i.found c.in_ok-mark.ensures (w.numbers-is ∙ unnoted _ c.loop-n.n _ w.if-branch-eq-FREE.false);
+            few = omega (arith, ap length (ap held w.numbers-is));
+            found = next_noted cs c.args.from c.loop-n.n _ _ _ _ (omega arith) i.found c.in_ok-mark.ensures (ap held w.numbers-is ∙ unnoted _ c.loop-n.n _ w.if-branch-eq-FREE.false);
           }
     ]
 

@@ -1,6 +1,7 @@
 use Rattle.std.proofs.Common.{◌≡◌, ◌+◌, length, ap, ◌∙◌, arith}
 use Rattle.std.proofs.lemmas.Result.{err_from_is_err_and}
 use Rattle.std.proofs.lemmas.List.{length_push}
+use Rattle.stacks.specs.Held.{held}
 use Rattle.search.proofs.Searching.{reach_none, reach_full, reach_refused, reach_here, reach_on}
 use Rattle.search.proofs.search.+descend.Goals as goal
 
@@ -24,7 +25,7 @@ returns-in_default-side_at g t c =
 pub returns : goal.returns
 returns g t c =
     let e = c.push.ensures in
-    let f : length c.push.new.self ≡ length c.args.path.now + 1 = ap length e ∙ length_push c.args.path.now c.in-Some.n in
+    let f : length (held c.push.new.self) ≡ length (held c.args.path.now) + 1 = ap length e ∙ length_push (held c.args.path.now) c.in-Some.n in
     reach_on _ c.args.sought.now (g.S.Store.cells c.args.store.now) _ _ _ _ _ c.args.link c.pick.result c.in-Some.n c.in_ok-v.v c.in-Some-side_at.side _
     (λ z. omega (arith, c.len.ensures.value, c.len.ensures.most)) (omega (arith, f)) c.in-Some.ensures c.in_ok-v.ensures c.in-Some-side_at.ensures
     c.pick.ensures e c.descend.ensures

@@ -1,5 +1,6 @@
 use Rattle.std.proofs.Common.{sym, ◌∙◌}
 use Rattle.drafts.proofs.Seeing.{weight_seen}
+use Rattle.stacks.specs.Held.{held}
 use Rattle.search.specs.Paths.{above}
 use Rattle.commits.proofs.Committing.{writes_one, no_refusal}
 use Rattle.edits.specs.declared.fault.Doing.TheVariants.{Rotation}
@@ -15,12 +16,12 @@ returns-in_err-during-in-None-clause-turns g c =
 
 pub returns-in-Some-clause-turns : goal.returns-in-Some-clause-turns
 returns-in-Some-clause-turns g c =
-    treat_turned (g.S.Store.cells c.args.store.now) (above c.args.self.now.path) c.args.self.now.root c.args.sessions _ (g.S.Store.cells c.turn.new.store) _ _ c.weight.result c.weight-2.result c.in-Some.lean
+    treat_turned (g.S.Store.cells c.args.store.now) (above (held c.args.self.now.path)) c.args.self.now.root c.args.sessions _ (g.S.Store.cells c.turn.new.store) _ _ c.weight.result c.weight-2.result c.in-Some.lean
     c.in-Some.ensures (c.weight.ensures.value ∙ sym (weight_seen c.args.draft.now c.args.w.now.left)) (c.weight-2.ensures.value ∙ sym (weight_seen c.args.draft.now c.args.w.now.right)) c.turn.ensures.turns
 
 pub returns-in_ok-during-in-None-clause-turns : goal.returns-in_ok-during-in-None-clause-turns
 returns-in_ok-during-in-None-clause-turns g c =
     let cs = g.S.Store.cells c.args.store.now in
-    treat_written cs (above c.args.self.now.path) c.args.self.now.root c.args.sessions _ (g.S.Store.cells c.write.new.self) c.weight.result c.weight-2.result
+    treat_written cs (above (held c.args.self.now.path)) c.args.self.now.root c.args.sessions _ (g.S.Store.cells c.write.new.self) c.weight.result c.weight-2.result
     c.in-None.ensures (c.weight.ensures.value ∙ sym (weight_seen c.args.draft.now c.args.w.now.left)) (c.weight-2.ensures.value ∙ sym (weight_seen c.args.draft.now c.args.w.now.right))
     (sized_bound cs c.requires.from.0 _ c.requires.from.1).node (writes_one cs (g.S.Store.cells c.write.new.self) c.args.w.now.node.number c.args.w.now.node.node c.write.ensures.after)

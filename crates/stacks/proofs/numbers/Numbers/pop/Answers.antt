@@ -6,5 +6,5 @@ use Rattle.stacks.proofs.numbers.Numbers.pop.Goals as goal
 
 pub invariant_of-self : goal.invariant_of-self
 invariant_of-self g c =
-    let some : 0 < c.self.inside.height = search rules in
-    blank_top _ _ _ _ some (omega arith) (omega arith) c.self.invariant
+    let some : 0 < c.args.self.now.height = search rules in
+    record { padded = blank_top _ _ _ _ some (omega arith) (omega arith) c.args.self.now.padded }
