@@ -64,15 +64,16 @@ returns-in_err-side g c =
       keeps = λ h. h;
     }
 
+-- the search stands before the facts: beside them it meets more records than it enters
 pub finish-requires : goal.finish-requires
 finish-requires g c = (
   search rules,
   let cs = g.S.Store.cells c.args.store.now in
-  let told = subst (λ z. built_told c.part.new.draft c.part.result ≡ parted cs c.in_ok-way.p z.0 z.1) c.cut-below.ensures c.part.ensures.value in
-  let f = c.in_ok-found.ensures in
-  let i = held_inside cs (held c.args.tree.now.path) c.args.tree.now.root _ c.args.key _ (holds_ok _ _ _ c.in_ok-way.ensures) in
-  let s = divided_linkable cs c.in_ok-way.p _ _ c.part.new.draft c.part.result c.in_ok-side.side told c.in_ok-side.ensures c.link.result c.link.ensures c.part.ensures.good i in
-  (s.link, (omega (arith, s.few, f.many), (chosen_inside cs _ f.chosen, s.gone))),
+      let told = subst (λ z. built_told c.part.new.draft c.part.result ≡ parted cs c.in_ok-way.p z.0 z.1) c.cut-below.ensures c.part.ensures.value in
+      let f = c.in_ok-found.ensures in
+      let i = held_inside cs (held c.args.tree.now.path) c.args.tree.now.root _ c.args.key _ (holds_ok _ _ _ c.in_ok-way.ensures) in
+      let s = divided_linkable cs c.in_ok-way.p _ _ c.part.new.draft c.part.result c.in_ok-side.side told c.in_ok-side.ensures c.link.result c.link.ensures c.part.ensures.good i in
+      (s.link, (omega (arith, s.few, f.many), (chosen_inside cs _ f.chosen, s.gone))),
 )
 
 pub returns : goal.returns
