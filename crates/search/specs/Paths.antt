@@ -1,6 +1,7 @@
--- A path: the nodes on the way down, from the root.
+-- A path: the nodes on the way down, from the root. What a path holds is said by `held`, of any stack of numbers.
 use Rattle.std.specs.Prelude.{ℕ, ◌-◌, List, length, take, Option}
 use Rattle.std.specs.List.{slice_get}
+pub use Rattle.stacks.specs.Held.{held}
 
 -- the last node of a path
 unfoldable pub lowest : List ℕ → Option ℕ

@@ -1,9 +1,16 @@
 -- Two stacks of numbers that hold the same are the same: the numbers say how many they are, and 0 fills the other places.
-use Rattle.std.proofs.Common.{ℕ, ◌≡◌, ◌-◌, List, ◌++◌, length, replicate, sym, ap, ◌∙◌, subst}
+use Rattle.std.proofs.Common.{ℕ, ◌≡◌, ◌-◌, List, ◌++◌, length, take, replicate, sym, ap, ◌∙◌, subst}
+use Rattle.std.proofs.lemmas.List.{take-append-drop, length-take-le}
 use Rattle.std.specs.Coded.{Coded-set, coded_ℕ, coded_list, le_prop}
 use Rattle.stacks.specs.declared.numbers.Numbers.{Numbers}
-use Rattle.stacks.specs.Padded.{Padded, front_long, refilled}
+use Rattle.stacks.specs.Padded.{Padded}
 use Rattle.stacks.specs.Held.{held}
+
+front_long : (h n : ℕ) (xs : List ℕ) → Padded h n xs → length (take h xs) ≡ h
+front_long h n xs p = length-take-le h xs (rw p.long p.small)
+
+refilled : (h n : ℕ) (xs : List ℕ) → Padded h n xs → take h xs ++ replicate (n - length (take h xs)) 0 ≡ xs
+refilled h n xs p = rw (front_long h n xs p, ← p.blank) (take-append-drop h xs)
 
 padded_once : (h n : ℕ) (xs : List ℕ) → IsProp (Padded h n xs)
 padded_once h n xs = hlevel (le_prop, Coded-set coded_ℕ, Coded-set (coded_list coded_ℕ))

@@ -10,8 +10,8 @@ pub use numbers::Numbers;
 use std::marker::Model;
 
 // At most N items, the last one on top. It cannot be `Copy`: the toolchain refuses that beside `impl Model` where the view does not give
-// the fields back. The places above the top hold what was there, or what the stack was made with; in `Numbers` they hold 0, and it can be
-// copied.
+// the fields back. The places above the top hold what was there, or what the stack was made with. `Numbers`, which has a ghost field in place
+// of the `impl Model`, can be copied.
 #[derive(Clone, Drop)]
 pub struct Stack<T, const N: usize> {
     places: [T; N],
