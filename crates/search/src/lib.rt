@@ -4,6 +4,8 @@
 mod free;
 mod path;
 mod search;
+#[cfg(test)]
+mod tests;
 
 pub use free::{Found, find_free};
 pub use path::{DEEPEST, Path};
